@@ -1,0 +1,5 @@
+pub mod Parts
+pub mod Cutting
+pub mod Records
+pub mod Soundness
+pub mod Texts

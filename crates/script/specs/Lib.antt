@@ -1,0 +1,5 @@
+pub mod Lines
+pub mod Refusals
+pub mod Judgement
+pub mod Scripts
+pub mod Views
