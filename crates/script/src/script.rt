@@ -9,9 +9,9 @@ mod methods;
 
 // Only Check fills one, so that no script breaks the rules.
 #[derive(Clone, Copy)]
-pub struct Script<'a> {
-    bytes: &'a [u8],
-    directory: &'a [Line],
+pub struct Script<'b, 'd> {
+    bytes: &'b [u8],
+    directory: &'d [Line],
     count: usize,
     ghost checked: { sound (lent bytes) (lent directory) count ≡ true },
 }

@@ -22,9 +22,9 @@ static FIRST_LINE: [Line; 1] = [Line {
     length: 6,
 }];
 
-impl<'a> Script<'a> {
+impl<'b, 'd> Script<'b, 'd> {
     // The one line `&TRACE`.
-    pub fn new() -> Script<'static>
+    pub fn new() -> Script<'b, 'd>
         ensures { λ r. ⌜ bytesOf r ≡ codes "&TRACE" ⌝ }
     {
         Script {
@@ -36,13 +36,13 @@ impl<'a> Script<'a> {
 
     // Fills the script from `bytes`, with `directory` for its records, and answers the number of
     // lines; or refuses, and the script stays as it was.
-    pub fn check(&mut self, bytes: &'a [u8], directory: &'a mut [Line]) -> Result<usize, Refusal>
+    pub fn check(&mut self, bytes: &'b [u8], directory: &'d mut [Line]) -> Result<usize, Refusal>
         ensures answer { λ r. ⌜ told r ≡ judged (now (bytes .entry)) (length (now (directory .entry))) ⌝ }
         ensures after { λ r. ⌜ Left (now (self .entry)) (now (bytes .entry)) (now (directory .entry)) r (now (self .exit)) ⌝ }
     {
         match fill(bytes, directory) {
             Ok(count) => {
-                let directory: &'a [Line] = directory;
+                let directory: &'d [Line] = directory;
                 *self = Script {
                     bytes,
                     directory,
@@ -54,14 +54,14 @@ impl<'a> Script<'a> {
         }
     }
 
-    pub fn bytes(&self) -> &'a [u8]
+    pub fn bytes(&self) -> &'b [u8]
         ensures { λ r. ⌜ now r ≡ bytesOf (now (self .entry)) ⌝ }
     {
         self.bytes
     }
 
     // The records of its lines.
-    pub fn lines(&self) -> &'a [Line]
+    pub fn lines(&self) -> &'d [Line]
         ensures is { λ r. ⌜ now r ≡ recordsOf (bytesOf (now (self .entry))) ⌝ }
         ensures few { λ r. ⌜ length (now r) ≤ 1024 ⌝ }
     {
@@ -69,7 +69,7 @@ impl<'a> Script<'a> {
     }
 
     // The line of a number, counted from 1.
-    pub fn line(&self, number: usize) -> Option<&'a [u8]>
+    pub fn line(&self, number: usize) -> Option<&'b [u8]>
         ensures { λ r. ⌜ mapped now r ≡ lineNumbered (scriptLines (now (self .entry))) number ⌝ }
     {
         if number == 0 {
