@@ -17,5 +17,5 @@ abbrev pub Tells : Option Refusal → Verdict → Type 0
 Tells None v = (n : ℕ) × (v ≡ Ok n)
 Tells (Some e) v = v ≡ Err (refusalNumber e, refusalLine e)
 
-abbrev pub shows : Answer → Verdict → List ℕ → Type 0
-shows a v text = (vec-items (a .text) ≡ text) × Tells (a .refusal) v
+abbrev pub Shows : Answer → Verdict → List ℕ → Type 0
+Shows a v text = (vec-items (a .text) ≡ text) × Tells (a .refusal) v

@@ -1,16 +1,21 @@
 // What the program tells a person.
+ghost use mathlib.Core.Path.{_≡_};
+ghost use Rattle.script.specs.Refusals.{refusalNumber};
+ghost use Rattle.console.specs.Messages.{refusalMeaning};
 use script::Refusal;
 
 // What a refusal means, and what to do about it.
-pub fn meaning(refusal: Refusal) -> &'static str {
+pub fn meaning(refusal: Refusal) -> &'static str
+    ensures { λ r. ⌜ now r ≡ refusalMeaning (refusalNumber refusal) ⌝ }
+{
     match refusal {
         Refusal::TooManyBytes => "a script has at most 65,535 bytes; make it shorter",
         Refusal::ByteNotAllowed { .. } => {
-            "that line has a byte that is not from 32 to 126; use blanks and plain ASCII only"
+            "the line has a byte that is not from 32 to 126; write it in blanks and plain ASCII"
         }
-        Refusal::LineTooLong { .. } => "a line has at most 255 bytes; break that line up",
+        Refusal::LineTooLong { .. } => "a line has at most 255 bytes; break it up",
         Refusal::TooManyLines => "a script has at most 1,024 lines; take some out",
-        Refusal::NoTrace => "the first word of the first line must be &TRACE",
+        Refusal::NoTrace => "the first word of the first line must be &TRACE; put it there",
     }
 }
 
@@ -20,5 +25,5 @@ pub const HELP: &str = "exec2: scenarios in EXEC 2, checked and listed
   exec2 list SCRIPT     for each line its number, offset, length and text; then the number of lines
   exec2 help            this page
 
-A refused script ends with status 1. scenarios/ has scripts to try.
+A refused script ends with status 1. The folder scenarios has scripts to try.
 ";

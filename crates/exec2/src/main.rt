@@ -4,12 +4,9 @@ use console::HELP;
 use console::check;
 use console::list;
 use console::meaning;
-use std::alloc::AllocError;
-use std::alloc::Global;
 use std::env;
 use std::error::AnyError;
 use std::fs;
-use std::io;
 use std::io::Write;
 
 // What the program is asked to do.
@@ -50,14 +47,15 @@ fn source(rt: &LibcRuntime, path: &str) -> Result<Vec<u8>, AnyError> {
 // Writes an answer; a refusal is put in words too, and fails.
 fn show(rt: &LibcRuntime, path: &str, answer: Answer) -> Result<(), AnyError> {
     rt.stdout().write_all(answer.text.as_slice())?;
-    match answer.refusal {
-        None => Ok(()),
-        Some(refusal) => {
-            let meaning = meaning(refusal);
-            eprintln!(rt, "exec2: {path}: {meaning}")?;
-            Err("the script is refused".into())
-        }
+    let Some(refusal) = answer.refusal else {
+        return Ok(());
+    };
+    let meaning = meaning(refusal);
+    match refusal.line() {
+        Some(line) => eprintln!(rt, "exec2: {path}: line {line}: {meaning}")?,
+        None => eprintln!(rt, "exec2: {path}: {meaning}")?,
     }
+    Err("the script is refused".into())
 }
 
 fn run(rt: &LibcRuntime, task: Task<'_>) -> Result<(), AnyError> {
