@@ -19,11 +19,14 @@ pub fn meaning(refusal: Refusal) -> &'static str
     }
 }
 
-pub const HELP: &str = "exec2: scenarios in EXEC 2, checked and listed
+pub const HELP: &str = "exec2: scenarios in EXEC 2
 
   exec2 check SCRIPT    the number of lines, or the refusal
   exec2 list SCRIPT     for each line its number, offset, length and text; then the number of lines
+  exec2 orders          takes map orders from standard input, one to a line; writes each with its
+                        code, and then the board
   exec2 help            this page
 
-A refused script ends with status 1. The folder scenarios has scripts to try.
+Orders are PLACE piece row column, MOVE piece row column and TAKE piece. A refused script ends with
+status 1. The folder scenarios has scripts to try.
 ";

@@ -11,13 +11,13 @@ use script::Refusal;
 use std::alloc::AllocError;
 use text::Text;
 
-fn push_number(out: &mut Vec<u8>, n: u64) -> Result<(), AllocError>
+pub(crate) fn push_number(out: &mut Vec<u8>, n: u64) -> Result<(), AllocError>
     ensures { λ r. ⌜ made r (λ _. vec-items (now (out .exit)) ≡ vec-items (now (out .entry)) ++ decimal n) ⌝ }
 {
     out.extend_from_slice(Text::from_decimal(n).as_bytes())
 }
 
-fn push_field(out: &mut Vec<u8>, n: u64) -> Result<(), AllocError>
+pub(crate) fn push_field(out: &mut Vec<u8>, n: u64) -> Result<(), AllocError>
     ensures { λ r. ⌜ made r (λ _. vec-items (now (out .exit)) ≡ vec-items (now (out .entry)) ++ field n) ⌝ }
 {
     push_number(out, n)?;

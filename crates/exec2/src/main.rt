@@ -4,9 +4,11 @@ use console::HELP;
 use console::check;
 use console::list;
 use console::meaning;
+use console::orders;
 use std::env;
 use std::error::AnyError;
 use std::fs;
+use std::io::Read;
 use std::io::Write;
 
 // What the program is asked to do.
@@ -14,21 +16,23 @@ use std::io::Write;
 enum Task<'a> {
     Check(&'a str),
     List(&'a str),
+    Orders,
     Help,
     Unknown,
 }
 
 fn asked(words: &[String]) -> Task<'_> {
-    if words.len() == 1 && words[0].as_str() == "help" {
-        return Task::Help;
-    }
-    if words.len() != 2 {
-        return Task::Unknown;
-    }
-    let path = words[1].as_str();
-    match words[0].as_str() {
-        "check" => Task::Check(path),
-        "list" => Task::List(path),
+    match words.len() {
+        1 => match words[0].as_str() {
+            "orders" => Task::Orders,
+            "help" => Task::Help,
+            _ => Task::Unknown,
+        },
+        2 => match words[0].as_str() {
+            "check" => Task::Check(words[1].as_str()),
+            "list" => Task::List(words[1].as_str()),
+            _ => Task::Unknown,
+        },
         _ => Task::Unknown,
     }
 }
@@ -58,6 +62,15 @@ fn show(rt: &LibcRuntime, path: &str, answer: Answer) -> Result<(), AnyError> {
     Err("the script is refused".into())
 }
 
+// Orders from standard input, each with its code, and then the board.
+fn play_orders(rt: &LibcRuntime) -> Result<(), AnyError> {
+    let mut input = Vec::new(rt.alloc());
+    rt.stdin().read_to_end(&mut input)?;
+    let text = orders(rt.alloc(), input.as_slice())?;
+    rt.stdout().write_all(text.as_slice())?;
+    Ok(())
+}
+
 fn run(rt: &LibcRuntime, task: Task<'_>) -> Result<(), AnyError> {
     match task {
         Task::Check(path) => {
@@ -68,6 +81,7 @@ fn run(rt: &LibcRuntime, task: Task<'_>) -> Result<(), AnyError> {
             let bytes = source(rt, path)?;
             show(rt, path, list(rt.alloc(), bytes.as_slice())?)
         }
+        Task::Orders => play_orders(rt),
         Task::Help => {
             print!(rt, "{HELP}")?;
             Ok(())

@@ -1,9 +1,13 @@
 // Check at each of its limits.
+use console::check;
+use console::list;
+use console::meaning;
 use script::Line;
 use script::Script;
 use std::alloc::AllocError;
 use std::alloc::Global;
 use std::error::AnyError;
+use std::io::Write;
 
 fn outcome(rt: &LibcRuntime, label: &str, source: &[u8], records: usize) -> Result<(), AnyError> {
     let mut directory = vec![in rt.alloc(); Line {
@@ -124,6 +128,21 @@ fn lookups(rt: &LibcRuntime) -> Result<(), AnyError> {
     Ok(())
 }
 
+// A listing, and the text of a refusal.
+fn listed(rt: &LibcRuntime) -> Result<(), AnyError> {
+    rt.stdout()
+        .write_all(list(rt.alloc(), b"&TRACE\n\n* A B")?.text.as_slice())?;
+    rt.stdout()
+        .write_all(check(rt.alloc(), b"&TRACE\n\n* A B")?.text.as_slice())?;
+    let refused = list(rt.alloc(), b"&TRACE\n\t")?;
+    rt.stdout().write_all(refused.text.as_slice())?;
+    if let Some(refusal) = refused.refusal {
+        let meaning = meaning(refusal);
+        println!(rt, "{meaning}")?;
+    }
+    Ok(())
+}
+
 pub fn show(rt: &LibcRuntime) -> Result<(), AnyError> {
     let heap = rt.alloc();
     for n in [0, 1, 254, 255, 256] {
@@ -160,5 +179,6 @@ pub fn show(rt: &LibcRuntime) -> Result<(), AnyError> {
     )?;
     fresh(rt)?;
     refused(rt)?;
-    lookups(rt)
+    lookups(rt)?;
+    listed(rt)
 }

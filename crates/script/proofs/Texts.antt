@@ -10,10 +10,11 @@ use lib.ListN.{length, take, drop, getD, length-append}
 use Rattle.std.specs.Options.{mapped}
 use Rattle.std.specs.declared.option.Option.{Option}
 use Rattle.std.specs.declared.option.Option.the-variants.{Some, None}
-use Rattle.std.proofs.shelf.Lists.{take-at, drop-at, take-map, drop-map, getD-map}
+use Rattle.std.proofs.shelf.Lists.{take-at, drop-at, getD-map}
 use Rattle.std.proofs.shelf.Maps.{nth-getD, nth-past}
 use Rattle.std.proofs.shelf.Tests.{cases-bool}
-use Rattle.text.specs.Search.{firstFrom, orElse, firstRound}
+use Rattle.text.specs.Search.{firstRound}
+use Rattle.text.proofs.Rounds.{round-map}
 use Rattle.script.specs.Lines.{linesAfter, linesOf, recordsFrom, recordsOf, lineText, firstWordIs}
 use Rattle.script.specs.Views.{lineNumbered, labelled}
 use Rattle.script.specs.declared.line.Line.{Line}
@@ -41,16 +42,6 @@ texts-after whole before l (b ∷ bs) at w e =
 
 pub texts-of : (bytes : List ℕ) → map (lineText bytes) (recordsOf bytes) ≡ linesOf bytes
 texts-of bytes = texts-after bytes [] [] bytes 0 refl refl
-
--- a search through what records point to is a search through the lines
-first-map : {A B : Type 0} (f : A → B) (p : B → Bool) (i : ℕ) (xs : List A) → firstFrom (λ (x : A). p (f x)) i xs ≡ firstFrom p i (map f xs)
-first-map f p i [] = refl
-first-map f p i (x ∷ xs) = ap (λ (o : Option ℕ). cond (p (f x)) (Some i) o) (first-map f p (i + 1) xs)
-
-pub round-map : {A B : Type 0} (f : A → B) (p : B → Bool) (from : ℕ) (xs : List A) → firstRound (λ (x : A). p (f x)) from xs ≡ firstRound p from (map f xs)
-round-map {A} {B} f p from xs =
-    ap (λ (o : Option ℕ). orElse o (firstFrom (λ (x : A). p (f x)) 0 (take from xs))) (first-map f p from (drop from xs) ∙ ap (firstFrom p from) (sym (drop-map f from xs)))
-    ∙ ap (orElse (firstFrom p from (drop from (map f xs)))) (first-map f p 0 (take from xs) ∙ ap (firstFrom p 0) (sym (take-map f from xs)))
 
 module _ (bytes : List ℕ) (records : List Line) (all : records ≡ recordsOf bytes) where
   pub label-found : (label : List ℕ) (from : ℕ) (o : Option ℕ) → o ≡ firstRound (λ (l : Line). firstWordIs label (lineText bytes l)) from records → mapped (λ i. i + 1) o ≡ labelled (linesOf bytes) from label

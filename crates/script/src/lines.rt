@@ -11,7 +11,7 @@ use text::all_within;
 use text::until;
 
 // The first line of `bytes`, and what follows the byte that ends it.
-pub(crate) fn next_line(bytes: &[u8]) -> Option<(&[u8], &[u8])>
+pub fn next_line(bytes: &[u8]) -> Option<(&[u8], &[u8])>
     ensures is { λ r. ⌜ parts r ≡ nextLine (now (bytes .entry)) ⌝ }
     ensures cuts { λ r. ⌜ Cuts (now (bytes .entry)) (parts r) ⌝ }
 {

@@ -1,14 +1,14 @@
 -- How a loop over records comes to the first that passes.
 use mathlib.Core.Path.{_≡_, refl, sym, ap, _∙_}
-use mathlib.Core.List.{List, [], _∷_}
-use mathlib.Core.Bool.{Bool, true, false}
+use mathlib.Core.List.{List, [], _∷_, map}
+use mathlib.Core.Bool.{Bool, true, false, cond}
 use mathlib.Core.Logic.{⊎-elim}
 use Prim.Native.Nat.{ℕ, _+_, _<_, _≤_, min}
 use native.Mathlib.Omega.{arith}
 use lib.ListN.{length, take, drop, getD, length-take}
 use Rattle.std.specs.declared.option.Option.{Option}
 use Rattle.std.specs.declared.option.Option.the-variants.{Some, None}
-use Rattle.std.proofs.shelf.Lists.{drop-more, drop-all, getD-take, take-all}
+use Rattle.std.proofs.shelf.Lists.{drop-more, drop-all, getD-take, take-all, take-map, drop-map}
 use Rattle.std.proofs.shelf.Tests.{cases-lt}
 use Rattle.text.specs.Search.{firstFrom, orElse, firstRound}
 
@@ -47,3 +47,18 @@ module _ {R : Type 0} (p : R → Bool) (xs : List R) (from : ℕ) (a : Option �
       q ∙ ap (λ (m : ℕ). firstFrom p 0 (take m xs)) k ∙ ap (firstFrom p 0) (take-min from xs)
       ∙ ap (λ (o : Option ℕ). orElse o (firstFrom p 0 (take from xs))) (sym h ∙ e)
       ∙ rw whole
+
+-- a search through what a function gives of the records
+pub first-map : {A B : Type 0} (f : A → B) (p : B → Bool) (i : ℕ) (xs : List A) → firstFrom (λ (x : A). p (f x)) i xs ≡ firstFrom p i (map f xs)
+first-map f p i [] = refl
+first-map f p i (x ∷ xs) = ap (λ (o : Option ℕ). cond (p (f x)) (Some i) o) (first-map f p (i + 1) xs)
+
+pub round-map : {A B : Type 0} (f : A → B) (p : B → Bool) (from : ℕ) (xs : List A) → firstRound (λ (x : A). p (f x)) from xs ≡ firstRound p from (map f xs)
+round-map {A} {B} f p from xs =
+    ap (λ (o : Option ℕ). orElse o (firstFrom (λ (x : A). p (f x)) 0 (take from xs))) (first-map f p from (drop from xs) ∙ ap (firstFrom p from) (sym (drop-map f from xs)))
+    ∙ ap (orElse (firstFrom p from (drop from (map f xs)))) (first-map f p 0 (take from xs) ∙ ap (firstFrom p 0) (sym (take-map f from xs)))
+
+-- from the start, there is nothing to come round to
+pub round-start : {R : Type 0} (p : R → Bool) (xs : List R) → firstRound p 0 xs ≡ firstFrom p 0 xs
+round-start p xs =
+    elim (firstFrom p 0 xs) as (λ o. orElse o None ≡ o) [ None ↦ refl | Some i ↦ refl ]

@@ -3,6 +3,7 @@ mod bytes;
 mod numbers;
 mod order;
 mod search;
+mod short;
 mod text;
 mod words;
 
@@ -12,6 +13,7 @@ pub use crate::numbers::number;
 pub use crate::order::compare_words;
 pub use crate::search::Named;
 pub use crate::search::find;
+pub use crate::short::ShortText;
 pub use crate::text::Full;
 pub use crate::text::Text;
 pub use crate::words::next_word;

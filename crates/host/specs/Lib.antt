@@ -1,0 +1,5 @@
+pub mod Books
+pub mod Names
+pub mod Refusals
+pub mod Hosts
+pub mod Records
