@@ -1,0 +1,3 @@
+pub mod Walks
+pub mod Kept
+pub mod Compared
