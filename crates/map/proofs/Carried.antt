@@ -1,21 +1,17 @@
 -- Orders carried out on the table leave what they leave on the board.
 use mathlib.Core.Path.{_≡_, refl, sym, ap, subst, _∙_}
-use mathlib.Core.List.{List, [], _∷_, _++_, map, append-assoc}
+use mathlib.Core.List.{List, [], _∷_, _++_, map}
 use mathlib.Core.Bool.{Bool, true, false, cond}
 use Prim.Native.Nat.{ℕ, _+_, _-_, _<_, _≤_, zero, suc}
-use native.Mathlib.Numerals.{add-one}
 use native.Mathlib.Omega.{arith}
 use lib.Dec.{leb, eqb}
 use lib.IntN.{ℤ, pos}
-use lib.ListN.{length, take, drop, set, length-take, length-drop, length-set, length-append}
-use borrow.Rule.Slice.PartMut.{putMid, postOf}
+use lib.ListN.{length, take, drop, set, length-take, length-set}
 use Rattle.std.specs.Options.{isSome}
 use Rattle.std.specs.declared.option.Option.{Option}
 use Rattle.std.specs.declared.option.Option.the-variants.{Some, None}
 use Rattle.std.specs.shelf.Lists.{removed}
-use Rattle.std.proofs.shelf.Lists.{length-map, map-append, map-push, map-set, take-map, drop-map, take-at, take-take, take-more-set, drop-drop}
-use Rattle.std.proofs.shelf.Edits.{length-removed}
-use Rattle.std.proofs.shelf.Parts.{between-is}
+use Rattle.std.proofs.shelf.Lists.{length-map, map-append, map-push, map-set, take-map, drop-map, take-more-set}
 use Rattle.std.proofs.shelf.Tests.{cond-true, cond-false, le-leb, lt-leb, not-true, not-false, true≢false, false≢true}
 use Rattle.text.specs.Bytes.{shortHeld}
 use Rattle.map.specs.Boards.{Stand, Board, Outcome, outcome, stand, otherThan, placeAt, moveAt, takeAt}
@@ -87,26 +83,6 @@ module _ (pieces : List Piece) (count : ℕ) (fits : count ≤ length pieces) wh
   move-done x i (Some j) e =
       leaves-at _ _ (set pieces i x) _ (cond-true _ _ _ (not-false (eqb i j) (sym e))) (moved i x)
 
-  -- the piece at i goes to the end, and is no longer among the first
-  rotated : (i : ℕ) (part : List Piece) → i < count → part ≡ drop 1 (take (count - i) (drop i pieces)) ++ take 1 (take (count - i) (drop i pieces)) → take (count - 1) (putMid i (count - i) pieces part) ≡ removed (take count pieces) i
-  rotated i part h e =
-      let ys : List Piece = take (count - i) (drop i pieces) in
-      let back : drop 1 ys ≡ drop (suc i) (take count pieces) = ap (drop 1) (between-is pieces i count) ∙ drop-drop 1 i (take count pieces) ∙ ap (λ (m : ℕ). drop m (take count pieces)) (add-one i) in
-      let front : take i pieces ≡ take i (take count pieces) = sym (take-take i count pieces (omega arith)) in
-      let n : length (take i pieces ++ drop 1 ys) ≡ count - 1 = simp (length-append, length-take, length-drop) (omega arith) in
-      ap (λ (zs : List Piece). take (count - 1) (take i pieces ++ (zs ++ postOf i (count - i) pieces))) e
-      ∙ ap (take (count - 1)) (simp append-assoc)
-      ∙ take-at (take i pieces ++ drop 1 ys) (take 1 ys ++ postOf i (count - i) pieces) (count - 1) n
-      ∙ ap (λ (zs : List Piece). zs ++ drop 1 ys) front
-      ∙ ap (λ (zs : List Piece). take i (take count pieces) ++ zs) back
-
-  pub take-done : (i : ℕ) (part : List Piece) → i < count → part ≡ drop 1 (take (count - i) (drop i pieces)) ++ take 1 (take (count - i) (drop i pieces)) → Leaves (takeAt (boardOf (take count pieces)) (Some i)) (putMid i (count - i) pieces part) (Done, count - 1)
-  take-done i part h e =
-      let all : length (take count pieces) ≡ count = simp length-take (omega arith) in
-      let n = length-removed (take count pieces) i (omega arith) in
-      let m = simp length-take at (ap length (rotated i part h e)) in
-      record {
-        code = refl;
-        board = ap boardOf (rotated i part h e) ∙ map-removed standOf (take count pieces) i;
-        within = omega arith;
-      }
+  pub take-done : (i : ℕ) (after : List Piece) → i < count → length after ≡ length pieces → take (count - 1) after ≡ removed (take count pieces) i → Leaves (takeAt (boardOf (take count pieces)) (Some i)) after (Done, count - 1)
+  take-done i after h n e =
+      record { code = refl; board = ap boardOf e ∙ map-removed standOf (take count pieces) i; within = omega arith }

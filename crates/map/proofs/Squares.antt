@@ -5,7 +5,6 @@ use mathlib.Core.Bool.{Bool, true, false, cond}
 use Prim.Native.Nat.{ℕ, _+_, _<_, _≤_}
 use native.Mathlib.Omega.{arith}
 use lib.ListN.{length, take, drop, getD, length-take}
-use Rattle.std.specs.Slices.{found}
 use Rattle.std.specs.declared.option.Option.{Option}
 use Rattle.std.specs.declared.option.Option.the-variants.{Some, None}
 use Rattle.std.proofs.shelf.Lists.{drop-more, drop-all, getD-map, getD-take, length-map}
@@ -13,11 +12,6 @@ use Rattle.text.specs.Search.{firstFrom}
 use Rattle.map.specs.Boards.{Stand}
 use Rattle.map.specs.Pieces.{standOf, boardOf}
 use Rattle.map.specs.declared.piece.Piece.{Piece}
-
--- a bound that is no larger
-pub found-below : (o : Option ℕ) (m n : ℕ) → m ≤ n → found o (λ i. i < m) → found o (λ i. i < n)
-found-below None m n h k = tt
-found-below (Some i) m n h k = omega arith
 
 module _ (p : Stand → Bool) (pieces : List Piece) (count i : ℕ) (fits : count ≤ length pieces) where
   long : length (boardOf (take count pieces)) ≡ count

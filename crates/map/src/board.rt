@@ -16,6 +16,7 @@ use crate::piece::Piece;
 use crate::piece::methods::find_piece;
 use crate::piece::methods::find_square;
 use text::ShortText;
+use text::remove;
 
 // A row or a column from 1 to the side.
 fn in_side(side: u8, z: i32) -> Option<u8>
@@ -99,7 +100,7 @@ fn take_piece(pieces: &mut [Piece], count: usize, name: ShortText) -> (Code, usi
     let Some(i) = find_piece(pieces, count, &name) else {
         return (Code::WrongPiece, count);
     };
-    pieces[i..count].rotate_left(1);
+    remove(pieces, count, i);
     (Code::Done, count - 1)
 }
 

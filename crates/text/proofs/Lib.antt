@@ -3,3 +3,4 @@ pub mod Digits
 pub mod Padding
 pub mod Spelling
 pub mod Rounds
+pub mod Tables

@@ -6,6 +6,7 @@ use mathlib.Core.Logic.{⊎-elim}
 use Prim.Native.Nat.{ℕ, _+_, _<_, _≤_, min}
 use native.Mathlib.Omega.{arith}
 use lib.ListN.{length, take, drop, getD, length-take}
+use Rattle.std.specs.Slices.{found}
 use Rattle.std.specs.declared.option.Option.{Option}
 use Rattle.std.specs.declared.option.Option.the-variants.{Some, None}
 use Rattle.std.proofs.shelf.Lists.{drop-more, drop-all, getD-take, take-all, take-map, drop-map}
@@ -62,3 +63,8 @@ round-map {A} {B} f p from xs =
 pub round-start : {R : Type 0} (p : R → Bool) (xs : List R) → firstRound p 0 xs ≡ firstFrom p 0 xs
 round-start p xs =
     elim (firstFrom p 0 xs) as (λ o. orElse o None ≡ o) [ None ↦ refl | Some i ↦ refl ]
+
+-- a bound that is no larger
+pub found-below : (o : Option ℕ) (m n : ℕ) → m ≤ n → found o (λ i. i < m) → found o (λ i. i < n)
+found-below None m n h k = tt
+found-below (Some i) m n h k = omega arith

@@ -4,6 +4,7 @@ mod numbers;
 mod order;
 mod search;
 mod short;
+mod table;
 mod text;
 mod words;
 
@@ -13,7 +14,9 @@ pub use crate::numbers::number;
 pub use crate::order::compare_words;
 pub use crate::search::Named;
 pub use crate::search::find;
+pub use crate::search::find_used;
 pub use crate::short::ShortText;
+pub use crate::table::remove;
 pub use crate::text::Full;
 pub use crate::text::Text;
 pub use crate::words::next_word;

@@ -25,7 +25,7 @@ fn find_between<R: Named>(
 ) -> Option<usize>
     requires { ⌜ to ≤ length (now records) ⌝ }
     ensures is { λ r. ⌜ r ≡ firstFrom (λ x. R·Named .named x (now (bytes .entry)) (now (name .entry))) from (drop from (take to (now (records .entry)))) ⌝ }
-    ensures within { λ r. ⌜ found r (λ i. i < length (now (records .entry))) ⌝ }
+    ensures within { λ r. ⌜ found r (λ i. i < to) ⌝ }
 {
     for i in from..to {
         if records[i].bears(bytes, name) {
@@ -45,4 +45,13 @@ pub fn find<R: Named>(records: &[R], from: usize, bytes: &[u8], name: &[u8]) -> 
         Some(i) => Some(i),
         None => find_between(records, 0, from.min(records.len()), bytes, name),
     }
+}
+
+// The place of the first that bears `name` of the records in use, the first `count`.
+pub fn find_used<R: Named>(records: &[R], count: usize, bytes: &[u8], name: &[u8]) -> Option<usize>
+    requires { ⌜ count ≤ length (now records) ⌝ }
+    ensures is { λ r. ⌜ r ≡ firstFrom (λ x. R·Named .named x (now (bytes .entry)) (now (name .entry))) 0 (take count (now (records .entry))) ⌝ }
+    ensures within { λ r. ⌜ found r (λ i. i < count) ⌝ }
+{
+    find_between(records, 0, count, bytes, name)
 }

@@ -11,7 +11,7 @@ ghost use Rattle.map.specs.Pieces.{standOf, boardOf};
 use super::Piece;
 use text::Named;
 use text::ShortText;
-use text::find;
+use text::find_used;
 use text::same_bytes;
 
 pub impl Named for Piece as PieceNamed {
@@ -36,7 +36,7 @@ pub(crate) fn find_piece(pieces: &[Piece], count: usize, name: &ShortText) -> Op
     ensures is { λ r. ⌜ r ≡ placeOf (shortHeld (now (name .entry))) (boardOf (take count (now (pieces .entry)))) ⌝ }
     ensures within { λ r. ⌜ found r (λ i. i < count) ⌝ }
 {
-    find(&pieces[0..count], 0, b"", name.as_bytes())
+    find_used(pieces, count, b"", name.as_bytes())
 }
 
 // Which of the first `count` pieces is on a square.

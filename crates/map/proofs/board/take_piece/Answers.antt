@@ -10,4 +10,4 @@ use Rattle.map.proofs.board.take_piece.Needs as need
 pub returns : need.returns
 returns c =
     let p : placeOf (shortHeld (c .args .name)) (boardOf (take (c .args .count) (c .args .pieces .now))) ≡ Some (c .in-Some .i) = sym (c .in-Some .ensures tt .is) in
-    rw p (take-done (c .args .pieces .now) (c .args .count) (c .pre) (c .in-Some .i) (c .rotate-left .last .self) (c .in-Some .ensures tt .within) (c .rotate-left .ensures .after))
+    rw p (take-done (c .args .pieces .now) (c .args .count) (c .pre) (c .in-Some .i) (c .remove .last .records) (c .in-Some .ensures tt .within) (c .remove .kept .records) (c .remove .ensures))

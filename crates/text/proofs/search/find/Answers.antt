@@ -1,5 +1,7 @@
 use mathlib.Core.Path.{refl}
-use Rattle.text.proofs.Rounds.{found-first, found-round}
+use native.Mathlib.Omega.{arith}
+use lib.ListN.{length}
+use Rattle.text.proofs.Rounds.{found-first, found-round, found-below}
 use Rattle.text.proofs.search.find.Needs as need
 
 pub returns-in-Some : need.returns-in-Some
@@ -14,5 +16,6 @@ returns-in-None g c =
     record {
       is =
           found-round _ (c .args .records .now) (c .args .from) _ (c .in-None .ensures tt .is) _ (c .min .result) refl (c .min .ensures) (c .find-between-in-None .ensures .is);
-      within = c .find-between-in-None .ensures .within;
+      within =
+          found-below (c .find-between-in-None .result) (c .min .result) (length (c .args .records .now)) (omega (arith, c .min .ensures)) (c .find-between-in-None .ensures .within);
     }
