@@ -1,0 +1,17 @@
+pub mod Texts
+pub mod Faults
+pub mod Names
+pub mod Cores
+pub mod Store
+pub mod Words
+pub mod Functions
+pub mod Assignments
+pub mod Conditions
+pub mod Orders
+pub mod Reads
+pub mod Statements
+pub mod Sessions
+pub mod Trials
+pub mod Positions
+pub mod Examples
+pub mod Laws
