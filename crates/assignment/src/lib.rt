@@ -1,2 +1,4 @@
 // Assignment: the target takes the value of the right side.
+#![tactic(auto)]
+
 mod assign;

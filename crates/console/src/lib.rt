@@ -1,4 +1,6 @@
 // What the program's words do, as functions.
+#![tactic(auto)]
+
 mod boards;
 mod messages;
 mod scripts;

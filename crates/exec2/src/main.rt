@@ -1,4 +1,6 @@
 // The program: its words, the file that they name, and what it writes.
+#![tactic(auto)]
+
 use anyhow::anyhow;
 use console::{Answer, HELP, check, list, meaning, orders};
 use std::io::{Read, Write};

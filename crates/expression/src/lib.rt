@@ -1,4 +1,6 @@
 // The right side of an assignment, evaluated.
+#![tactic(auto)]
+
 mod calls;
 mod right_side;
 mod sums;

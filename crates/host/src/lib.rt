@@ -1,4 +1,6 @@
 // Hosts: where commands go, and what is known of their answers.
+#![tactic(auto)]
+
 mod cue;
 mod host;
 mod name;

@@ -1,4 +1,6 @@
 // Looks up the words that the language knows, and changes texts as its functions do.
+#![tactic(auto)]
+
 mod arguments;
 mod controls;
 mod functions;

@@ -1,19 +1,19 @@
 // The theorems about the language, each in the contract of a function that does nothing else.
-ghost use Rattle.language.specs.Examples.{Statements-stand, Functions-stand, Stops-stand, Refusals-stand};
+ghost use Rattle.language.specs.Examples.{StatementsStand, FunctionsStand, StopsStand, RefusalsStand};
 ghost use Rattle.language.specs.Laws.{ScenariosCompare};
-ghost use Rattle.language.specs.Positions.{Positions-stand};
+ghost use Rattle.language.specs.Positions.{PositionsStand};
 
 // The ten worked positions come out as they should.
 pub fn positions_stand()
-    ensures { Positions-stand }
+    ensures { PositionsStand }
 {}
 
 // The examples come out as they should: each statement, function and stop, and what Open and Value refuse.
 pub fn examples_stand()
-    ensures statements { Statements-stand }
-    ensures functions { Functions-stand }
-    ensures stops { Stops-stand }
-    ensures refusals { Refusals-stand }
+    ensures statements { StatementsStand }
+    ensures functions { FunctionsStand }
+    ensures stops { StopsStand }
+    ensures refusals { RefusalsStand }
 {}
 
 // Two sessions on one script with equal argument strings and equal answer books compare, whatever calls

@@ -1,4 +1,6 @@
 // The language: what each statement does, and the positions and examples that compute from its definitions.
+#![tactic(auto)]
+
 mod fault;
 mod keyword;
 mod laws;

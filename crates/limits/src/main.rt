@@ -1,4 +1,5 @@
 // The edges of every rule, each shown beside the result that a person worked out.
+#![tactic(auto)]
 
 mod hosts;
 mod numbers;

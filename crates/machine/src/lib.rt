@@ -1,4 +1,6 @@
 // Machines of interactions: runs over them, courses of calls, and the law that compares courses.
+#![tactic(auto)]
+
 mod laws;
 mod reason;
 

@@ -1,4 +1,6 @@
 // The map: pieces on squares, and the orders that move them.
+#![tactic(auto)]
+
 mod board;
 mod code;
 mod map;

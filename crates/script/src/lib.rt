@@ -1,4 +1,6 @@
 // Scripts: their lines, the directory that tells where each line stands, and Check.
+#![tactic(auto)]
+
 mod judge;
 mod line;
 mod lines;

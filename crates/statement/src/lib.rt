@@ -1,4 +1,6 @@
 // Which statement a line comes to: its first word decides, and an &IF may lead to another.
+#![tactic(auto)]
+
 mod clause;
 mod condition;
 mod lead;

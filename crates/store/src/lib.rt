@@ -1,4 +1,6 @@
 // The state of a session.
+#![tactic(auto)]
+
 mod calls;
 mod state;
 mod store;

@@ -1,4 +1,5 @@
 // The words of a statement: taken from its line, and the names in them replaced by their values.
+#![tactic(auto)]
 
 mod gathered;
 mod replace;

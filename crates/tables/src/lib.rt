@@ -1,4 +1,6 @@
 // The fixed tables of a session: variables, and lines that are stacked or wait.
+#![tactic(auto)]
+
 mod lines;
 mod variables;
 

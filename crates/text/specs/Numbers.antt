@@ -1,5 +1,5 @@
 -- Numeric words: one or more digits after at most one sign, with a value that fits 32 bits.
-use Rattle.std.specs.Prelude.{ℕ, ◌+◌, ◌-◌, ◌*◌, Bool, true, false, cond, ◌&&◌, ◌||◌, List, [], ◌∷◌, length, ℤ, pos, negsuc, neg_ℤ, Some, None, Option, ◌==◌, int_le, nat_le}
+use Rattle.std.specs.Prelude.{ℕ, ◌+◌, ◌-◌, ◌*◌, Bool, false, cond, ◌&&◌, ◌||◌, List, [], ◌∷◌, length, ℤ, pos, negsuc, neg_ℤ, Some, None, Option, ◌==◌, int_le, nat_le}
 use Rattle.std.specs.Char.{is_ascii_digit}
 
 abbrev pub minus : ℕ → Bool

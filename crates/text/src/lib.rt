@@ -1,4 +1,6 @@
 // Bytes, words, numbers and names: what every other layer reads and writes.
+#![tactic(auto)]
+
 mod bytes;
 mod numbers;
 mod order;

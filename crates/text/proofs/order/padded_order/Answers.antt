@@ -1,5 +1,4 @@
-use Rattle.std.proofs.Common.{◌≡◌, ◌+◌, sym, ◌∙◌, arith}
-use Rattle.std.specs.Ordering.{ordering_then}
+use Rattle.std.proofs.Common.{◌+◌, sym, ◌∙◌, arith}
 use Rattle.text.proofs.Padding.{order_from, differs_here, same_here, order_more, order_all}
 use Rattle.text.proofs.order.padded_order.Goals as goal
 

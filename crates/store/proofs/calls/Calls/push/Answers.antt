@@ -2,8 +2,8 @@ use Rattle.std.proofs.Common.{arith, length-set}
 use Rattle.store.proofs.Frames.{frames_length, frames_push}
 use Rattle.store.proofs.calls.Calls.push.Goals as goal
 
-pub invariant-of-self : goal.invariant-of-self
-invariant-of-self c = (rw length-set c.args.self.now.whole, (omega (arith, frames_length c.args.self.now), tt))
+pub invariant_of-self : goal.invariant_of-self
+invariant_of-self c = (rw length-set c.args.self.now.whole, (omega (arith, frames_length c.args.self.now), tt))
 
 pub returns : goal.returns
 returns c = frames_push c.args.self.now c.args.call c.requires

@@ -2,8 +2,8 @@ use Rattle.std.proofs.Common.{arith, length-set}
 use Rattle.tables.proofs.Seen.{seen_length, pushed_last}
 use Rattle.tables.proofs.lines.Lines.push_last.Goals as goal
 
-pub invariant-of-self : goal.invariant-of-self
-invariant-of-self c =
+pub invariant_of-self : goal.invariant_of-self
+invariant_of-self c =
     (rw length-set c.args.self.now.whole, (c.args.self.now.begins, (omega (arith, seen_length c.args.self.now), tt)))
 
 pub returns : goal.returns

@@ -1,4 +1,4 @@
-use Rattle.std.proofs.Common.{◌≡◌, ◌+◌, ◌/◌, ◌^◌, ◌<◌, ◌≤◌, List, ◌++◌, length, decimal, ap, ◌∙◌, append-nil, arith, rules}
+use Rattle.std.proofs.Common.{◌^◌, ◌<◌, List, ◌++◌, decimal, ap, ◌∙◌, append-nil, arith, rules}
 use Rattle.std.proofs.lemmas.Fmt.{length-decimal-le}
 use Rattle.std.proofs.lemmas.List.{drop_all}
 use Rattle.text.proofs.Spelling.{room_more, digit_more, room_last, digit_last}

@@ -3,9 +3,9 @@ use Rattle.words.specs.Layout.{laid}
 use Rattle.words.specs.Listed.{listed}
 use Rattle.words.proofs.words.Words.new.Goals as goal
 
-pub invariant-of-result : goal.invariant-of-result
+pub invariant_of-result : goal.invariant_of-result
 unfolding laid
-invariant-of-result c = (omega arith, (omega arith, (refl, tt)))
+invariant_of-result c = (omega arith, (omega arith, (refl, tt)))
 
 pub returns : goal.returns
 unfolding listed

@@ -16,8 +16,8 @@ returns-then-n-at c =
 pub bounds-self-self : goal.bounds-self-self
 bounds-self-self c = omega (arith, count_le c.args.self.now (omega arith) (omega arith))
 
-pub invariant-of-self : goal.invariant-of-self
-invariant-of-self c =
+pub invariant_of-self : goal.invariant_of-self
+invariant_of-self c =
     let w = c.args.self.now in
     let few = count_le w (omega arith) (omega arith) in
     let lies = push_lies w c.args.word.now c.copy_from_slice.new.self _ (omega arith) (omega arith) c.copy_from_slice.ensures.after in

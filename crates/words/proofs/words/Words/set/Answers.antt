@@ -22,8 +22,8 @@ returns-then-n-self c =
     let size = set_size w (omega arith) (omega arith) c.args.i c.start-at.result c.if-i-self.false c.start-at.ensures.is word in
     record { answer = sym (full_by (set (listed w) c.args.i word) (omega arith)); after = refl }
 
-pub invariant-of-self : goal.invariant-of-self
-invariant-of-self c =
+pub invariant_of-self : goal.invariant_of-self
+invariant_of-self c =
     let lies = set_lies c.args.self.now (omega arith) (omega arith) c.args.i c.start-at.result c.if-i-self.false c.start-at.ensures.is c.args.word.now c.copy_within.new.self c.copy_from_slice.new.self (omega arith) c.copy_within.ensures.after c.copy_from_slice.ensures.after in
     (omega arith, (omega arith, (laid_is _ _ _ lies, tt)))
 
