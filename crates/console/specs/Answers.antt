@@ -1,5 +1,5 @@
 -- What an answer of the program holds.
-use Rattle.std.specs.Prelude.{◌≡◌, ℕ, List, Some, None, Ok, Err, vec_items, Option, Result}
+use Rattle.std.specs.Prelude.{◌≡◌, ℕ, List, Some, None, Ok, Err, vec_items, Option}
 use Rattle.script.specs.Judgement.{Verdict}
 use Rattle.script.specs.Refusals.{refusal_number, refusal_line}
 use Rattle.script.specs.declared.refusal.Refusal.{Refusal}

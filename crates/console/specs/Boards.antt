@@ -1,8 +1,7 @@
 -- What the program writes for map orders: each order with its code, and the board as drawn.
-use Rattle.std.specs.Prelude.{ℕ, zero, suc, ◌+◌, ◌-◌, cond, List, [], ◌∷◌, ◌++◌, map, length, replicate, ℤ, pos, Some, None, codes, decimal, Option, nat_lt}
+use Rattle.std.specs.Prelude.{ℕ, zero, suc, ◌+◌, cond, List, [], ◌∷◌, ◌++◌, map, ℤ, pos, Some, None, codes, decimal, Option, nat_lt}
 use Rattle.std.specs.Int.{is_in_range}
 use Rattle.std.specs.Fmt.{signed_decimal}
-use Rattle.script.specs.Lines.{lines_of}
 use Rattle.map.specs.Boards.{Stand, Board, holder_of, commanded}
 use Rattle.map.specs.Codes.{code_number}
 use Rattle.console.specs.Texts.{field}

@@ -1,5 +1,5 @@
 -- What the program writes for `check` and `list`.
-use Rattle.std.specs.Prelude.{ℕ, ◌+◌, List, [], ◌∷◌, ◌++◌, length, Some, None, Ok, Err, codes, decimal, Option}
+use Rattle.std.specs.Prelude.{ℕ, ◌+◌, List, [], ◌∷◌, ◌++◌, Some, None, Ok, Err, codes, decimal, Option}
 use Rattle.script.specs.Judgement.{Verdict, judged}
 use Rattle.script.specs.Lines.{records_of, line_text}
 use Rattle.script.specs.declared.line.Line.{Line}

@@ -1,5 +1,5 @@
 -- Answer books: what a host answers to every list of commands that may yet be sent.
-use Rattle.std.specs.Prelude.{ℕ, Bool, cond, List, [], ◌∷◌, ℤ}
+use Rattle.std.specs.Prelude.{ℕ, cond, List, [], ◌∷◌, ℤ}
 use Rattle.std.specs.Str.{bytes_eq}
 
 -- a command and the environment that it is for, byte strings of any content and length

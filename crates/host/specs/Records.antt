@@ -1,5 +1,5 @@
 -- What a recording host keeps.
-use Rattle.std.specs.Prelude.{◌≡◌, ℕ, true, List, [], ◌∷◌, ◌++◌, map, vec_items, MatchBool}
+use Rattle.std.specs.Prelude.{◌≡◌, true, List, [], ◌∷◌, ◌++◌, map, vec_items, MatchBool}
 use Rattle.host.specs.Books.{Pair, Answer, pair}
 use Rattle.host.specs.declared.recorder.Issued.{Issued}
 use Rattle.host.specs.declared.recorder.Recorder.{Recorder}

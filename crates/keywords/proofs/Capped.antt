@@ -6,10 +6,8 @@ use Rattle.std.specs.Str.{bytes_eq}
 use Rattle.std.proofs.lemmas.List.{at_drop_more, at_drop_all}
 use Rattle.std.proofs.lemmas.Bool.{cases_lt}
 use Rattle.text.specs.Numbers.{digits_after}
-use Rattle.language.specs.Names.{known_names, index_of, numbered_or, kind_of}
+use Rattle.language.specs.Names.{Kind, known_names, index_of, numbered_or, kind_of}
 use Rattle.language.specs.Texts.{Bytes, tabled}
-use Rattle.language.specs.declared.name.Kind.{Kind}
-use Rattle.language.specs.declared.name.Kind.TheVariants.{Ordinary}
 use Rattle.keywords.specs.Arguments.{largest_index, capped_index, capped_kind}
 
 -- two numbers that are too large come to the same, whatever digits follow
@@ -69,18 +67,18 @@ no_kind : (o : Option Kind) (other : Kind) → None ≡ o → capped_kind other 
 no_kind None other h = refl
 no_kind (Some x) other h = absurd (let z : ◌≡◌ {A = ℕ} 0 1 = cc in omega arith)
 
-numbered : (r : Option ℕ) → numbered_or Ordinary (capped_index r) ≡ capped_kind (numbered_or Ordinary r)
+numbered : (r : Option ℕ) → numbered_or Kind.ordinary (capped_index r) ≡ capped_kind (numbered_or Kind.ordinary r)
 numbered None = refl
 numbered (Some j) = refl
 
 module _ (n : Bytes) where
   pub known_kind : (k : Kind) → Some k ≡ tabled known_names n → k ≡ capped_kind (kind_of n)
   unfolding kind_of
-  known_kind k h = some_kind (tabled known_names n) (numbered_or Ordinary (index_of (drop 1 n))) k h (known_stay n)
+  known_kind k h = some_kind (tabled known_names n) (numbered_or Kind.ordinary (index_of (drop 1 n))) k h (known_stay n)
 
-  pub other_kind : (r : Option ℕ) → None ≡ tabled known_names n → r ≡ capped_index (index_of (drop 1 n)) → numbered_or Ordinary r ≡ capped_kind (kind_of n)
+  pub other_kind : (r : Option ℕ) → None ≡ tabled known_names n → r ≡ capped_index (index_of (drop 1 n)) → numbered_or Kind.ordinary r ≡ capped_kind (kind_of n)
   unfolding kind_of
   other_kind r h e =
-      ap (numbered_or Ordinary) e
+      ap (numbered_or Kind.ordinary) e
       ∙ numbered (index_of (drop 1 n))
-      ∙ no_kind (tabled known_names n) (numbered_or Ordinary (index_of (drop 1 n))) h
+      ∙ no_kind (tabled known_names n) (numbered_or Kind.ordinary (index_of (drop 1 n))) h

@@ -1,5 +1,6 @@
 -- A table cut down to the names that a word can be has the same for that word.
-use Rattle.std.proofs.Common.{◌≡◌, ℕ, true, false, cond, eqb, List, [], ◌∷◌, Some, Option, sym, refl, ap, ◌∙◌, ⊎_elim}
+use Rattle.std.proofs.Common.{◌≡◌, ℕ, true, false, cond, eqb, List, [], ◌∷◌, Some, None, Option, sym, refl, ap, ◌∙◌, ⊎_elim}
+use Rattle.std.specs.Option.{option_map}
 use Rattle.std.specs.Str.{bytes_eq}
 use Rattle.std.proofs.lemmas.Slice.Eq.{bytes_eq-Decides}
 use Rattle.std.proofs.lemmas.Bool.{cases_Bool, both_ways, eq-eqb}
@@ -25,3 +26,9 @@ module _ (b : ℕ) (n : Bytes) (h : eqb b (telling n) ≡ true) where
 -- what is found among the names with the telling byte of a name is what the table has for the name
 pub by_telling : {A : Type 0} → (t : List (Bytes × A)) (n : Bytes) → {s b : ℕ} → {r : Option A} → s ≡ telling n → s ≡ b → r ≡ tabled (under b t) n → r ≡ tabled t n
 by_telling t n {s} {b} e k h = h ∙ under_same b n (eq-eqb b (telling n) (sym k ∙ e)) t
+
+-- a table of one entry, seen through the view of its value
+pub only_seen : {A B : Type 0} → (f : A → B) → (k n : Bytes) → (v : A) → (r : Option A) → r ≡ tabled ((k, v) ∷ []) n → option_map f r ≡ tabled ((k, f v) ∷ []) n
+only_seen f k n v r h =
+    ap (option_map f) h
+    ∙ elim (bytes_eq k n) as (λ t. option_map f (cond t (Some v) None) ≡ cond t (Some (f v)) None) [ true ↦ refl | false ↦ refl ]

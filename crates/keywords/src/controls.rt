@@ -3,6 +3,8 @@ ghost use Rattle.std.specs.Prelude.{◌≡◌};
 ghost use Rattle.keywords.specs.Tables.{under};
 ghost use Rattle.language.specs.Orders.{controls, control_of};
 ghost use Rattle.language.specs.Texts.{tabled};
+ghost use Rattle.language.specs.Views.{control_seen};
+ghost use Rattle.std.specs.Option.{option_map};
 
 use crate::telling::{only, telling_byte};
 use language::{Control, Order};
@@ -10,7 +12,7 @@ use text::same_bytes;
 
 // One function for each letter that several words have there; its contract has the letter's code.
 fn in_c(word: &[u8]) -> Option<Control>
-    ensures { result ≡ tabled (under 67 controls) word.now }
+    ensures { option_map control_seen result ≡ tabled (under 67 controls) word.now }
 {
     match word {
         w if same_bytes(b"&CALL", w) => Some(Control::Obeys(Order::Call)),
@@ -20,7 +22,7 @@ fn in_c(word: &[u8]) -> Option<Control>
 }
 
 fn in_p(word: &[u8]) -> Option<Control>
-    ensures { result ≡ tabled (under 80 controls) word.now }
+    ensures { option_map control_seen result ≡ tabled (under 80 controls) word.now }
 {
     match word {
         w if same_bytes(b"&PRESUME", w) => Some(Control::Obeys(Order::Presume)),
@@ -30,7 +32,7 @@ fn in_p(word: &[u8]) -> Option<Control>
 }
 
 fn in_r(word: &[u8]) -> Option<Control>
-    ensures { result ≡ tabled (under 82 controls) word.now }
+    ensures { option_map control_seen result ≡ tabled (under 82 controls) word.now }
 {
     match word {
         w if same_bytes(b"&READ", w) => Some(Control::Read),
@@ -40,7 +42,7 @@ fn in_r(word: &[u8]) -> Option<Control>
 }
 
 fn in_s(word: &[u8]) -> Option<Control>
-    ensures { result ≡ tabled (under 83 controls) word.now }
+    ensures { option_map control_seen result ≡ tabled (under 83 controls) word.now }
 {
     match word {
         w if same_bytes(b"&SKIP", w) => Some(Control::Obeys(Order::Skip)),
@@ -51,7 +53,7 @@ fn in_s(word: &[u8]) -> Option<Control>
 }
 
 fn in_t(word: &[u8]) -> Option<Control>
-    ensures { result ≡ tabled (under 84 controls) word.now }
+    ensures { option_map control_seen result ≡ tabled (under 84 controls) word.now }
 {
     match word {
         w if same_bytes(b"&TRACE", w) => Some(Control::Obeys(Order::Trace)),
@@ -61,7 +63,7 @@ fn in_t(word: &[u8]) -> Option<Control>
 }
 
 fn control(word: &[u8]) -> Option<Control>
-    ensures { result ≡ tabled controls word.now }
+    ensures { option_map control_seen result ≡ tabled controls word.now }
 {
     match telling_byte(word) {
         b'A' => only(b"&ARGS", Control::Obeys(Order::Args), word),
@@ -78,7 +80,7 @@ fn control(word: &[u8]) -> Option<Control>
 }
 
 pub fn control_of(word: &[u8]) -> Option<Control>
-    ensures { result ≡ control_of word.now }
+    ensures { option_map control_seen result ≡ control_of word.now }
 {
     control(word)
 }

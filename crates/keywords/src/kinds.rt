@@ -3,6 +3,8 @@ ghost use Rattle.std.specs.Prelude.{◌≡◌};
 ghost use Rattle.keywords.specs.Tables.{under};
 ghost use Rattle.language.specs.Names.{known_names};
 ghost use Rattle.language.specs.Texts.{tabled};
+ghost use Rattle.language.specs.Views.{kind_seen};
+ghost use Rattle.std.specs.Option.{option_map};
 
 use crate::telling::{only, telling_byte};
 use language::{KeptName, Kind};
@@ -10,7 +12,7 @@ use text::same_bytes;
 
 // One function for each letter that several names have there; its contract has the letter's code.
 fn in_a(name: &[u8]) -> Option<Kind>
-    ensures { result ≡ tabled (under 65 known_names) name.now }
+    ensures { option_map kind_seen result ≡ tabled (under 65 known_names) name.now }
 {
     match name {
         n if same_bytes(b"&ARGSTRING", n) => Some(Kind::Kept(KeptName::ArgumentString)),
@@ -20,7 +22,7 @@ fn in_a(name: &[u8]) -> Option<Kind>
 }
 
 fn in_b(name: &[u8]) -> Option<Kind>
-    ensures { result ≡ tabled (under 66 known_names) name.now }
+    ensures { option_map kind_seen result ≡ tabled (under 66 known_names) name.now }
 {
     match name {
         n if same_bytes(b"&BLANK", n) => Some(Kind::Kept(KeptName::Blank)),
@@ -33,7 +35,7 @@ fn in_b(name: &[u8]) -> Option<Kind>
 }
 
 fn in_c(name: &[u8]) -> Option<Kind>
-    ensures { result ≡ tabled (under 67 known_names) name.now }
+    ensures { option_map kind_seen result ≡ tabled (under 67 known_names) name.now }
 {
     match name {
         n if same_bytes(b"&COLINE", n) => Some(Kind::Kept(KeptName::CommandLine)),
@@ -47,7 +49,7 @@ fn in_c(name: &[u8]) -> Option<Kind>
 }
 
 fn in_d(name: &[u8]) -> Option<Kind>
-    ensures { result ≡ tabled (under 68 known_names) name.now }
+    ensures { option_map kind_seen result ≡ tabled (under 68 known_names) name.now }
 {
     match name {
         n if same_bytes(b"&DEPTH", n) => Some(Kind::Kept(KeptName::Depth)),
@@ -58,7 +60,7 @@ fn in_d(name: &[u8]) -> Option<Kind>
 }
 
 fn in_e(name: &[u8]) -> Option<Kind>
-    ensures { result ≡ tabled (under 69 known_names) name.now }
+    ensures { option_map kind_seen result ≡ tabled (under 69 known_names) name.now }
 {
     match name {
         n if same_bytes(b"&ERROR", n) => Some(Kind::Own),
@@ -68,7 +70,7 @@ fn in_e(name: &[u8]) -> Option<Kind>
 }
 
 fn in_f(name: &[u8]) -> Option<Kind>
-    ensures { result ≡ tabled (under 70 known_names) name.now }
+    ensures { option_map kind_seen result ≡ tabled (under 70 known_names) name.now }
 {
     match name {
         n if same_bytes(b"&FROM", n) => Some(Kind::Kept(KeptName::From)),
@@ -80,7 +82,7 @@ fn in_f(name: &[u8]) -> Option<Kind>
 }
 
 fn in_i(name: &[u8]) -> Option<Kind>
-    ensures { result ≡ tabled (under 73 known_names) name.now }
+    ensures { option_map kind_seen result ≡ tabled (under 73 known_names) name.now }
 {
     match name {
         n if same_bytes(b"&INDEX", n) => Some(Kind::Kept(KeptName::Count)),
@@ -90,7 +92,7 @@ fn in_i(name: &[u8]) -> Option<Kind>
 }
 
 fn in_l(name: &[u8]) -> Option<Kind>
-    ensures { result ≡ tabled (under 76 known_names) name.now }
+    ensures { option_map kind_seen result ≡ tabled (under 76 known_names) name.now }
 {
     match name {
         n if same_bytes(b"&LINE", n) => Some(Kind::Kept(KeptName::Place)),
@@ -103,7 +105,7 @@ fn in_l(name: &[u8]) -> Option<Kind>
 }
 
 fn in_p(name: &[u8]) -> Option<Kind>
-    ensures { result ≡ tabled (under 80 known_names) name.now }
+    ensures { option_map kind_seen result ≡ tabled (under 80 known_names) name.now }
 {
     match name {
         n if same_bytes(b"&PRESUME", n) => Some(Kind::Own),
@@ -113,7 +115,7 @@ fn in_p(name: &[u8]) -> Option<Kind>
 }
 
 fn in_r(name: &[u8]) -> Option<Kind>
-    ensures { result ≡ tabled (under 82 known_names) name.now }
+    ensures { option_map kind_seen result ≡ tabled (under 82 known_names) name.now }
 {
     match name {
         n if same_bytes(b"&RC", n) => Some(Kind::Kept(KeptName::Code)),
@@ -125,7 +127,7 @@ fn in_r(name: &[u8]) -> Option<Kind>
 }
 
 fn in_s(name: &[u8]) -> Option<Kind>
-    ensures { result ≡ tabled (under 83 known_names) name.now }
+    ensures { option_map kind_seen result ≡ tabled (under 83 known_names) name.now }
 {
     match name {
         n if same_bytes(b"&SKIP", n) => Some(Kind::Own),
@@ -136,7 +138,7 @@ fn in_s(name: &[u8]) -> Option<Kind>
 }
 
 fn in_t(name: &[u8]) -> Option<Kind>
-    ensures { result ≡ tabled (under 84 known_names) name.now }
+    ensures { option_map kind_seen result ≡ tabled (under 84 known_names) name.now }
 {
     match name {
         n if same_bytes(b"&TRACE", n) => Some(Kind::Own),
@@ -151,7 +153,7 @@ fn in_t(name: &[u8]) -> Option<Kind>
 }
 
 pub(crate) fn known(name: &[u8]) -> Option<Kind>
-    ensures { result ≡ tabled known_names name.now }
+    ensures { option_map kind_seen result ≡ tabled known_names name.now }
 {
     match telling_byte(name) {
         0 => only(b"&", Kind::Kept(KeptName::Ampersand), name),

@@ -4,12 +4,14 @@ ghost use Rattle.language.specs.Conditions.{comparatives, comparative_of};
 ghost use Rattle.language.specs.Functions.{functions, function_of};
 ghost use Rattle.language.specs.Reads.{manners, manner_of};
 ghost use Rattle.language.specs.Texts.{tabled};
+ghost use Rattle.language.specs.Views.{function_seen, comparative_seen, manner_seen};
+ghost use Rattle.std.specs.Option.{option_map};
 
 use language::{Comparative, Function, Manner};
 use text::same_bytes;
 
 fn function(word: &[u8]) -> Option<Function>
-    ensures { result ≡ tabled functions word.now }
+    ensures { option_map function_seen result ≡ tabled functions word.now }
 {
     match word {
         w if same_bytes(b"&CONCAT", w) => Some(Function::Concat),
@@ -24,13 +26,13 @@ fn function(word: &[u8]) -> Option<Function>
 }
 
 pub fn function_of(word: &[u8]) -> Option<Function>
-    ensures { result ≡ function_of word.now }
+    ensures { option_map function_seen result ≡ function_of word.now }
 {
     function(word)
 }
 
 fn comparative(word: &[u8]) -> Option<Comparative>
-    ensures { result ≡ tabled comparatives word.now }
+    ensures { option_map comparative_seen result ≡ tabled comparatives word.now }
 {
     match word {
         b"=" | b"EQ" => Some(Comparative::Equal),
@@ -44,13 +46,13 @@ fn comparative(word: &[u8]) -> Option<Comparative>
 }
 
 pub fn comparative_of(word: &[u8]) -> Option<Comparative>
-    ensures { result ≡ comparative_of word.now }
+    ensures { option_map comparative_seen result ≡ comparative_of word.now }
 {
     comparative(word)
 }
 
 fn manner(word: &[u8]) -> Option<Manner>
-    ensures { result ≡ tabled manners word.now }
+    ensures { option_map manner_seen result ≡ tabled manners word.now }
 {
     match word {
         b"ARGS" => Some(Manner::Args),
@@ -61,7 +63,7 @@ fn manner(word: &[u8]) -> Option<Manner>
 }
 
 pub fn manner_of(word: &[u8]) -> Option<Manner>
-    ensures { result ≡ manner_of word.now }
+    ensures { option_map manner_seen result ≡ manner_of word.now }
 {
     manner(word)
 }

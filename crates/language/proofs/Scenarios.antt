@@ -1,12 +1,12 @@
 -- The comparison law at the language.
-use Rattle.std.proofs.Common.{◌≡◌, true, ◌⊎◌, List, ap, arith}
+use Rattle.std.proofs.Common.{ap, arith}
 use Rattle.host.specs.Books.{Book}
 use Rattle.machine.specs.Courses.{Course}
 use Rattle.machine.specs.Laws.{Alike}
 use Rattle.machine.proofs.Compared.{compared}
 use Rattle.language.specs.Texts.{printed_width}
 use Rattle.language.specs.Cores.{Core, fresh}
-use Rattle.language.specs.Laws.{Agree, Comparable, ScenariosCompare}
+use Rattle.language.specs.Laws.{Comparable, ScenariosCompare}
 use Rattle.language.specs.Sessions.{shown, language, new_session}
 
 comparable : (p q : Course Core) → Alike p q → Comparable p q

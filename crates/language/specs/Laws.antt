@@ -1,5 +1,5 @@
 -- The comparison law for scenarios, in the words of the subject.
-use Rattle.std.specs.Prelude.{◌≡◌, ℕ, ◌+◌, ◌≤◌, true, ◌⊎◌, List, [], length}
+use Rattle.std.specs.Prelude.{◌≡◌, ◌+◌, ◌≤◌, true, ◌⊎◌, List, length}
 use Rattle.host.specs.Books.{Book}
 use Rattle.machine.specs.Calls.{Call}
 use Rattle.machine.specs.Courses.{Course, begun, course}

@@ -10,6 +10,7 @@ pub mod Assignments
 pub mod Conditions
 pub mod Orders
 pub mod Reads
+pub mod Views
 pub mod Statements
 pub mod Sessions
 pub mod Trials

@@ -1,6 +1,5 @@
 -- Any two courses from equal starts compare.
-use Rattle.std.proofs.Common.{◌≡◌, ℕ, ◌+◌, ◌-◌, ◌≤◌, ◌⊎◌, List, [], ◌++◌, length, sym, ap, ◌∙◌, subst, inl, inr, append-nil, arith, length-append}
-use Rattle.machine.specs.Calls.{Call}
+use Rattle.std.proofs.Common.{◌≡◌, ℕ, ◌+◌, ◌-◌, ◌≤◌, ◌⊎◌, List, [], ◌++◌, sym, ap, ◌∙◌, subst, inl, inr, append-nil, arith, length-append}
 use Rattle.machine.specs.Courses.{Course, begun, course}
 use Rattle.machine.specs.Laws.{Begins, Alike, Balanced, Compares}
 use Rattle.machine.specs.Machines.{Line, Machine, State}

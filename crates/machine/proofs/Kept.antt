@@ -1,13 +1,13 @@
 -- Where the calls have led is where so many steps lead with the lines typed.
-use Rattle.std.proofs.Common.{◌≡◌, ℕ, zero, suc, ◌+◌, ◌-◌, ◌≤◌, Bool, true, false, cond, ltb, leb, List, [], ◌∷◌, ◌++◌, length, Some, None, Option, sym, refl, ap, ◌∙◌, subst, append_assoc, append-nil, add-one, arith}
+use Rattle.std.proofs.Common.{◌≡◌, ℕ, zero, suc, ◌+◌, ◌-◌, ◌≤◌, Bool, true, false, cond, ltb, leb, List, [], ◌∷◌, ◌++◌, length, Some, None, Option, sym, refl, ap, ◌∙◌, append_assoc, append-nil, arith}
 use Rattle.std.proofs.lemmas.Bool.{cond_both}
-use Rattle.machine.specs.Calls.{Call, Answer, Reply, most_waiting, most_steps, least_page, value_buffer, report_buffer, still, entered, went, showing, typable, running, reply}
+use Rattle.machine.specs.Calls.{Call, Reply, most_waiting, most_steps, least_page, value_buffer, report_buffer, still, entered, went, showing, typable, running, reply}
 use Rattle.machine.specs.Calls.Call.{enter, go, value, report}
-use Rattle.machine.specs.Calls.Answer.{refused, taken, ran, told}
+use Rattle.machine.specs.Calls.Answer.{refused, told}
 use Rattle.machine.specs.Courses.{Course, begun, extended, course}
 use Rattle.machine.specs.Machines.{Line, Machine, State, Deeds, nothing, ◌then◌, Outcome, step}
 use Rattle.machine.specs.Machines.Outcome.{waits, goes}
-use Rattle.machine.specs.Runs.{Ran, halt, precede, tried, run}
+use Rattle.machine.specs.Runs.{Ran, halt, tried, run}
 use Rattle.machine.specs.declared.reason.Reason.{Reason}
 use Rattle.machine.proofs.Walks.{then_assoc, then_nothing, more, stepped, walk, walk_suc, walk_more}
 

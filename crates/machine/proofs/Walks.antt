@@ -1,7 +1,7 @@
 -- Steps that no call hinders, and what a number of them gives.
 use Rattle.std.proofs.Common.{◌≡◌, ℕ, zero, suc, ◌+◌, List, [], ◌∷◌, ◌++◌, length, sym, refl, ap, ◌∙◌, subst, append_assoc, append-nil, add-zero, add_assoc, suc-add, zero-add, arith, length-append}
 use Rattle.machine.specs.Laws.{Begins}
-use Rattle.machine.specs.Machines.{Line, Stacking, Action, Machine, State, Deeds, nothing, ◌then◌, Outcome, reading, acting, step}
+use Rattle.machine.specs.Machines.{Line, Action, Machine, State, Deeds, nothing, ◌then◌, Outcome, reading, acting, step}
 use Rattle.machine.specs.Machines.Action.{moves, prints, issues, reads}
 use Rattle.machine.specs.Machines.Outcome.{waits, goes}
 use Rattle.machine.specs.Machines.Stacking.{none, first, last}

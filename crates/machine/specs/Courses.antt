@@ -1,5 +1,5 @@
 -- Courses of calls: what a list of calls comes to, told by what the calls answered and what the host received.
-use Rattle.std.specs.Prelude.{ℕ, ◌+◌, Bool, List, [], ◌∷◌, ◌++◌}
+use Rattle.std.specs.Prelude.{ℕ, ◌+◌, List, [], ◌∷◌, ◌++◌}
 use Rattle.host.specs.Books.{Pair, Answer as HostAnswer}
 use Rattle.machine.specs.Machines.{Line, Machine, State}
 use Rattle.machine.specs.Calls.{Call, Answer, Reply, reply}

@@ -1,14 +1,13 @@
 -- Each refusal and each reason on a small machine, with the answers worked out by hand.
-use Rattle.std.specs.Prelude.{◌≡◌, ℕ, Bool, cond, List, [], ◌∷◌, replicate, pos, Some, None, codes, Option, ◌==◌, nat_le}
+use Rattle.std.specs.Prelude.{◌≡◌, ℕ, cond, List, [], ◌∷◌, replicate, pos, Some, None, codes, ◌==◌, nat_le}
 use Rattle.std.specs.Str.{bytes_eq}
 use Rattle.host.specs.Books.{Book, pair}
-use Rattle.machine.specs.Machines.{Line, Action, Stacking, Machine, State}
+use Rattle.machine.specs.Machines.{Machine, State}
 use Rattle.machine.specs.Machines.Action.{moves, prints, issues, reads}
 use Rattle.machine.specs.Machines.Stacking.{none, first, last}
 use Rattle.machine.specs.Calls.{Call, Answer, reply}
 use Rattle.machine.specs.Calls.Call.{enter, go, value, report}
 use Rattle.machine.specs.Calls.Answer.{refused, taken, ran, told}
-use Rattle.machine.specs.Courses.{begun, extended, course}
 use Rattle.machine.specs.declared.reason.Reason.TheVariants.{Ended, Spent, Waiting, Full}
 
 -- it prints twice, stacks a line in front and one behind, reads three lines, sends a command and ends: the core is the number of

@@ -1,5 +1,5 @@
 -- The comparison law: what two sessions from equal starts have in common, whatever calls are made on each.
-use Rattle.std.specs.Prelude.{◌≡◌, ℕ, ◌+◌, ◌≤◌, ◌⊎◌, List, [], ◌++◌, length}
+use Rattle.std.specs.Prelude.{◌≡◌, ℕ, ◌+◌, ◌≤◌, ◌⊎◌, List, ◌++◌, length}
 use Rattle.machine.specs.Machines.{Machine, State}
 use Rattle.machine.specs.Calls.{Call}
 use Rattle.machine.specs.Courses.{Course, begun, course}

@@ -1,5 +1,5 @@
 -- Machines that interact with the world: what one step does, and what it leaves.
-use Rattle.std.specs.Prelude.{ℕ, suc, ◌+◌, Bool, true, false, cond, List, [], ◌∷◌, ◌++◌, length, take, Option}
+use Rattle.std.specs.Prelude.{ℕ, suc, ◌+◌, Bool, List, [], ◌∷◌, ◌++◌, take, Option}
 use Rattle.host.specs.Books.{Pair, Answer, Book, answer_to, after}
 
 -- a line of text, as its bytes, without the byte that ends it

@@ -1,5 +1,5 @@
 -- Run: steps until one of four things is so.
-use Rattle.std.specs.Prelude.{ℕ, zero, suc, ◌-◌, Bool, cond, List, length, nat_le}
+use Rattle.std.specs.Prelude.{ℕ, zero, suc, ◌-◌, cond, length, nat_le}
 use Rattle.machine.specs.Machines.{Machine, State, Deeds, nothing, ◌then◌, Outcome, step}
 use Rattle.machine.specs.Machines.Outcome.{waits, goes}
 use Rattle.machine.specs.declared.reason.Reason.{Reason}

@@ -1,14 +1,14 @@
 -- Orders carried out on the table leave what they leave on the board.
-use Rattle.std.proofs.Common.{◌≡◌, ℕ, zero, suc, ◌+◌, ◌-◌, ◌<◌, ◌≤◌, Bool, true, false, cond, eqb, leb, List, [], ◌∷◌, ◌++◌, map, length, take, drop, set, ℤ, pos, is_some, Some, None, Option, sym, refl, ap, ◌∙◌, subst, arith, length-set, length-take}
+use Rattle.std.proofs.Common.{◌≡◌, ℕ, ◌+◌, ◌-◌, ◌<◌, ◌≤◌, true, false, eqb, leb, List, length, take, set, ℤ, pos, is_some, Some, None, Option, sym, refl, ap, ◌∙◌, subst, arith, length-set, length-take}
 use Rattle.std.specs.List.{remove}
-use Rattle.std.proofs.lemmas.List.{length-map, map-append, map_push, map-set, take-map, drop-map, take_more_set}
+use Rattle.std.proofs.lemmas.List.{length-map, map_push, map-set, take_more_set}
 use Rattle.std.proofs.lemmas.Bool.{cond-true, cond-false, le-leb, lt-leb, not-true, not-false, true≢false, false≢true}
 use Rattle.text.specs.Bytes.{short_held}
 use Rattle.text.proofs.Tables.{take-set_any, map-removed}
-use Rattle.map.specs.Boards.{Stand, Board, Outcome, outcome, stand, other_than, place_at, move_at, take_at}
+use Rattle.map.specs.Boards.{Outcome, outcome, other_than, place_at, move_at, take_at}
 use Rattle.map.specs.Pieces.{stand_of, board_of, Leaves}
 use Rattle.map.specs.declared.code.Code.{Code}
-use Rattle.map.specs.declared.code.Code.TheVariants.{Done, SquareHeld, WrongPiece, OffTheMap, TooManyPieces, Malformed}
+use Rattle.map.specs.declared.code.Code.TheVariants.{Done, SquareHeld, TooManyPieces}
 use Rattle.map.specs.declared.piece.Piece.{Piece}
 
 -- a search that found nothing

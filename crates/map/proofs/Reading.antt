@@ -1,5 +1,5 @@
 -- An order read word by word is the order of the words.
-use Rattle.std.proofs.Common.{◌≡◌, ℕ, Bool, true, false, cond, leb, List, [], ◌∷◌, length, Some, None, Option, sym, refl, ap, ◌∙◌, arith}
+use Rattle.std.proofs.Common.{◌≡◌, ℕ, Bool, true, false, cond, leb, List, ◌∷◌, length, Some, None, Option, sym, ap, ◌∙◌, arith}
 use Rattle.text.specs.Words.{words_of}
 use Rattle.map.specs.Orders.{Order, order_by, order_of}
 

@@ -1,5 +1,5 @@
 -- A loop over pieces comes to the first on a square.
-use Rattle.std.proofs.Common.{◌≡◌, ℕ, ◌+◌, ◌<◌, ◌≤◌, Bool, true, false, cond, List, ◌∷◌, map, length, get_or, take, drop, Some, None, Option, sym, ap, ◌∙◌, arith, length-take}
+use Rattle.std.proofs.Common.{◌≡◌, ℕ, ◌+◌, ◌<◌, ◌≤◌, Bool, true, false, List, ◌∷◌, length, get_or, take, drop, Some, None, sym, ap, ◌∙◌, arith, length-take}
 use Rattle.std.proofs.lemmas.List.{drop_more, drop_all, get_or-map, get_or-take, length-map}
 use Rattle.text.specs.Search.{first_from}
 use Rattle.map.specs.Boards.{Stand}

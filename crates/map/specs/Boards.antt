@@ -1,5 +1,5 @@
 -- A board: which piece stands where. Orders are carried out on a board of any side and number of pieces.
-use Rattle.std.specs.Prelude.{ℕ, Bool, true, false, cond, not, ◌&&◌, List, [], ◌∷◌, ◌++◌, length, ℤ, pos, Some, None, Option, ◌==◌, int_le, nat_le, slice_set, unsigned_abs}
+use Rattle.std.specs.Prelude.{ℕ, Bool, false, cond, not, ◌&&◌, List, [], ◌∷◌, ◌++◌, length, ℤ, pos, Some, None, Option, ◌==◌, int_le, nat_le, slice_set, unsigned_abs}
 use Rattle.std.specs.List.{remove}
 use Rattle.std.specs.Str.{bytes_eq}
 use Rattle.text.specs.Search.{first_from}

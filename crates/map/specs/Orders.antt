@@ -1,8 +1,7 @@
 -- Orders as they are written: PLACE piece row column, MOVE piece row column, TAKE piece.
-use Rattle.std.specs.Prelude.{ℕ, Bool, cond, List, [], ◌∷◌, length, ℤ, Some, None, codes, Option, nat_le}
+use Rattle.std.specs.Prelude.{ℕ, cond, List, [], ◌∷◌, length, ℤ, Some, None, codes, Option, nat_le}
 use Rattle.std.specs.Str.{bytes_eq}
 use Rattle.text.specs.Numbers.{number_of}
-use Rattle.text.specs.Words.{words_of}
 
 pub data Order : Type 0 where
   place : List ℕ → ℤ → ℤ → Order

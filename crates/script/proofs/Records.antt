@@ -1,13 +1,12 @@
 -- Records written one after the other.
-use Rattle.std.proofs.Common.{◌≡◌, ℕ, ◌+◌, ◌-◌, ◌<◌, ◌≤◌, Bool, true, false, cond, List, [], ◌∷◌, ◌++◌, length, take, drop, set, Some, None, Option, unwrap_or, sym, refl, ap, ◌∙◌, ⊎_elim, append_assoc, append-nil, arith, length-drop, length-take}
+use Rattle.std.proofs.Common.{◌≡◌, ℕ, ◌+◌, ◌-◌, ◌<◌, ◌≤◌, Bool, true, false, List, [], ◌∷◌, ◌++◌, length, take, drop, set, Some, None, Option, unwrap_or, sym, ap, ◌∙◌, ⊎_elim, append_assoc, append-nil, arith, length-drop, length-take}
 use Rattle.std.specs.List.{prefix_len}
 use Rattle.std.proofs.lemmas.List.{drop_all, drop-drop, drop-set-lt, take_more_set, take-append-drop}
 use Rattle.std.proofs.lemmas.List.Sums.{prefix_len-le-length}
 use Rattle.std.proofs.lemmas.Bool.{cases_lt, cases_Bool}
 use Rattle.text.specs.Search.{first_from}
 use Rattle.text.specs.Words.{differs}
-use Rattle.script.specs.Judgement.{long}
-use Rattle.script.specs.Lines.{lines_of, next_line, records_from, records_of}
+use Rattle.script.specs.Lines.{lines_of, next_line, records_from}
 use Rattle.script.specs.declared.line.Line.{Line}
 use Rattle.script.proofs.Cutting.{cuts_by}
 

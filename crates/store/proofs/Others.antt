@@ -10,7 +10,8 @@ use Rattle.text.proofs.Rounds.{first_within}
 use Rattle.language.specs.Cores.{Core, Variable, with_variables, with_arguments}
 use Rattle.language.specs.Faults.{◌>>=◌, ◌>>◌, must}
 use Rattle.language.specs.Names.{kind_of, index_of, numbered_or, known_names}
-use Rattle.language.specs.Store.{bears, variable, variable_at, value_at, value_of, value_by, kept_value, settable_by, assigned_at, assigned_to, put_by, put}
+use Rattle.language.specs.Store.{bears, variable, variable_at, value_at, value_of, value_by, kept_value, settable_by, assigned_at, put_by, put}
+use Rattle.tables.specs.Assigned.{assigned_to}
 use Rattle.language.specs.Texts.{Bytes, is_null, tabled, has_ampersand}
 use Rattle.language.specs.declared.fault.StoreFault.{StoreFault}
 use Rattle.language.specs.declared.fault.StoreFault.TheVariants.{CannotBeSet, TooManyVariables, ListTooLong}

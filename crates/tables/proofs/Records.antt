@@ -1,5 +1,5 @@
 -- Records of the table of variables, and the variables that they stand for.
-use Rattle.std.proofs.Common.{◌≡◌, ℕ, ◌+◌, ◌-◌, ◌<◌, ◌≤◌, Bool, true, false, cond, ltb, List, [], ◌∷◌, ◌++◌, map, length, get_or, take, set, Some, Ok, Err, Option, Result, sym, refl, ap, ◌∙◌, arith, length-take}
+use Rattle.std.proofs.Common.{◌≡◌, ℕ, ◌+◌, ◌-◌, ◌<◌, ◌≤◌, Bool, true, false, cond, List, [], map, length, get_or, take, set, Some, Ok, Err, sym, ap, ◌∙◌, arith, length-take}
 use Rattle.std.specs.List.{remove}
 use Rattle.std.specs.Str.{bytes_eq}
 use Rattle.std.proofs.lemmas.Slice.Eq.{bytes_eq-Decides}
@@ -9,11 +9,11 @@ use Rattle.text.specs.Bytes.{held}
 use Rattle.text.proofs.Rounds.{first_within, first_passes}
 use Rattle.text.proofs.Tables.{take-set_any, map-removed}
 use Rattle.language.specs.Cores as cores
-use Rattle.language.specs.Store.{bears, variable, variable_at, value_at, added, assigned_at, assigned_to}
+use Rattle.language.specs.Store.{bears, variable, variable_at, value_at, assigned_at}
+use Rattle.tables.specs.Assigned.{added, assigned_to}
 use Rattle.language.specs.Texts.{Bytes, is_null}
-use Rattle.language.specs.declared.fault.StoreFault.{StoreFault}
 use Rattle.language.specs.declared.fault.StoreFault.TheVariants.{TooManyVariables}
-use Rattle.tables.specs.Tables.{variable_seen, in_use, leaving}
+use Rattle.tables.specs.Tables.{variable_seen, in_use}
 use Rattle.tables.specs.declared.variables.Variable.{Variable}
 
 module _ (records : List Variable) (count : ℕ) where

@@ -2,7 +2,8 @@
 ghost use Rattle.std.specs.Prelude.{◌≡◌, ◌<◌, ◌≤◌, [], length, IfSome, is_ok, IfOk, MatchBool};
 ghost use Rattle.text.specs.Bytes.{held};
 ghost use Rattle.language.specs.Faults.{giving};
-ghost use Rattle.language.specs.Store.{bears, variable, variable_at, value_at, added, assigned_to};
+ghost use Rattle.language.specs.Store.{bears, variable, variable_at, value_at};
+ghost use Rattle.tables.specs.Assigned.{added, assigned_to};
 ghost use Rattle.tables.specs.Tables.{variable_seen, in_use, variables_seen, leaving};
 
 use super::{Variable, Variables};

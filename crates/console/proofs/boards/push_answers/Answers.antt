@@ -1,4 +1,4 @@
-use Rattle.std.proofs.Common.{◌≡◌, vec_items, ◌∙◌, w32, SFits, rules}
+use Rattle.std.proofs.Common.{vec_items, ◌∙◌, w32, SFits, rules}
 use Rattle.std.proofs.lemmas.Int.{to_z-of_z}
 use Rattle.script.specs.Lines.{lines_of}
 use Rattle.map.specs.Maps.{map_board}

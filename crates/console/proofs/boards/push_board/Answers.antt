@@ -1,4 +1,4 @@
-use Rattle.std.proofs.Common.{ℕ, List, ◌++◌, vec_items, ap, ◌∙◌}
+use Rattle.std.proofs.Common.{vec_items}
 use Rattle.map.specs.Maps.{map_board}
 use Rattle.console.specs.Boards.{heading, grid_from, legend_from}
 use Rattle.console.proofs.Drawing.{three_parts}

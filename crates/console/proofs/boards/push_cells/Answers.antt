@@ -1,4 +1,4 @@
-use Rattle.std.proofs.Common.{◌≡◌, ℕ, ◌+◌, ◌-◌, List, [], ◌∷◌, ◌++◌, vec_items, ap, ◌∙◌, arith, rules}
+use Rattle.std.proofs.Common.{ℕ, ◌+◌, ◌-◌, [], ◌∷◌, ◌++◌, vec_items, ap, ◌∙◌}
 use Rattle.map.specs.Maps.{map_board}
 use Rattle.console.specs.Boards.{cells_from}
 use Rattle.console.proofs.Drawing.{part_more, cell_more}

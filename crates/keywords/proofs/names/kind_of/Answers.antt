@@ -1,12 +1,13 @@
 use Rattle.std.proofs.Common.{Some, None, ap, ◌∙◌}
 use Rattle.language.specs.Names.{index_of}
 use Rattle.language.specs.Texts.{Bytes}
+use Rattle.language.specs.Views.{kind_seen}
 use Rattle.keywords.specs.Arguments.{capped_index}
 use Rattle.keywords.proofs.Capped.{known_kind, other_kind}
 use Rattle.keywords.proofs.names.kind_of.Goals as goal
 
 pub returns-in-Some : goal.returns-in-Some
-returns-in-Some c = known_kind c.args.name.now c.in-Some.kind c.in-Some.ensures
+returns-in-Some c = known_kind c.args.name.now (kind_seen c.in-Some.kind) c.in-Some.ensures
 
 pub returns-in-Some-index : goal.returns-in-Some-index
 returns-in-Some-index c =

@@ -2,7 +2,7 @@ use Rattle.std.proofs.Common.{◌≡◌, take, pos, Some, sym}
 use Rattle.text.specs.Bytes.{short_held}
 use Rattle.map.specs.Boards.{place_of, holder_of}
 use Rattle.map.specs.Pieces.{board_of}
-use Rattle.map.proofs.Carried.{move_held, move_done}
+use Rattle.map.proofs.Carried.{move_done}
 use Rattle.map.proofs.board.move_piece.Goals as goal
 
 pub returns : goal.returns

@@ -1,8 +1,8 @@
-use Rattle.std.proofs.Common.{◌≡◌, ℕ, length, take, pos, None, Option, sym, ap, ◌∙◌}
+use Rattle.std.proofs.Common.{◌≡◌, take, pos, None, sym, ◌∙◌}
 use Rattle.text.specs.Bytes.{short_held}
-use Rattle.map.specs.Boards.{place_of, holder_of, place_at}
+use Rattle.map.specs.Boards.{place_of, holder_of}
 use Rattle.map.specs.Pieces.{board_of}
-use Rattle.map.proofs.Carried.{none_found, leaves_at, place_full, place_done}
+use Rattle.map.proofs.Carried.{none_found, place_full, place_done}
 use Rattle.map.proofs.board.place_piece.Goals as goal
 
 pub returns-then-count-pieces : goal.returns-then-count-pieces

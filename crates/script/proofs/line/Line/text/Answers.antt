@@ -1,4 +1,4 @@
-use Rattle.std.proofs.Common.{◌≡◌, ◌<◌, arith, length-take, rules}
+use Rattle.std.proofs.Common.{◌<◌, arith, length-take, rules}
 use Rattle.script.proofs.Parts.{cut_part}
 use Rattle.script.proofs.line.Line.text.Goals as goal
 

@@ -1,4 +1,4 @@
-use Rattle.std.proofs.Common.{ℕ, List, Some, ap, ◌∙◌}
+use Rattle.std.proofs.Common.{Some, ap, ◌∙◌}
 use Rattle.script.proofs.Texts.{line_past, line_at}
 use Rattle.script.proofs.script.Script.line.Goals as goal
 

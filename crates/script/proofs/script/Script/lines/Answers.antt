@@ -1,4 +1,4 @@
-use Rattle.std.proofs.Common.{◌≡◌, ap, ◌∙◌, arith, length-take}
+use Rattle.std.proofs.Common.{arith, length-take}
 use native.Mathlib.Nat.{sub-zero}
 use Rattle.script.proofs.Soundness.{sound_verdict, sound_records, lines_fit}
 use Rattle.script.proofs.script.Script.lines.Goals as goal

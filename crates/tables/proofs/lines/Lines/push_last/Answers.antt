@@ -4,7 +4,7 @@ use Rattle.tables.proofs.lines.Lines.push_last.Goals as goal
 
 pub invariant_of-self : goal.invariant_of-self
 invariant_of-self c =
-    (rw length-set c.args.self.now.whole, (c.args.self.now.begins, (omega (arith, seen_length c.args.self.now), tt)))
+    record { whole = rw length-set c.args.self.now.whole; begins = c.args.self.now.begins; few = omega (arith, seen_length c.args.self.now) }
 
 pub returns : goal.returns
 returns c = pushed_last c.args.self.now c.place-at.result c.args.line c.requires c.place-at.ensures.is

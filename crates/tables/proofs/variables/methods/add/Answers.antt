@@ -1,6 +1,6 @@
 use Rattle.std.proofs.Common.{ℕ, List, refl, ap, ◌∙◌, arith}
 use Rattle.text.specs.Bytes.{held}
-use Rattle.language.specs.Store.{added}
+use Rattle.tables.specs.Assigned.{added}
 use Rattle.tables.specs.Tables.{in_use}
 use Rattle.tables.proofs.Records.{no_place, one_more}
 use Rattle.tables.proofs.variables.methods.add.Goals as goal

@@ -5,7 +5,7 @@ use Rattle.words.proofs.words.Words.new.Goals as goal
 
 pub invariant_of-result : goal.invariant_of-result
 unfolding laid
-invariant_of-result c = (omega arith, (omega arith, (refl, tt)))
+invariant_of-result c = record { room = omega arith; few = omega arith; whole = refl }
 
 pub returns : goal.returns
 unfolding listed

@@ -21,7 +21,7 @@ invariant_of-self c =
     let w = c.args.self.now in
     let few = count_le w (omega arith) (omega arith) in
     let lies = push_lies w c.args.word.now c.copy_from_slice.new.self _ (omega arith) (omega arith) c.copy_from_slice.ensures.after in
-    (omega arith, (omega arith, (laid_is _ _ _ lies, tt)))
+    record { room = omega arith; few = omega arith; whole = laid_is _ _ _ lies }
 
 pub returns : goal.returns
 returns c =

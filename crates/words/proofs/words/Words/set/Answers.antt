@@ -25,7 +25,7 @@ returns-then-n-self c =
 pub invariant_of-self : goal.invariant_of-self
 invariant_of-self c =
     let lies = set_lies c.args.self.now (omega arith) (omega arith) c.args.i c.start-at.result c.if-i-self.false c.start-at.ensures.is c.args.word.now c.copy_within.new.self c.copy_from_slice.new.self (omega arith) c.copy_within.ensures.after c.copy_from_slice.ensures.after in
-    (omega arith, (omega arith, (laid_is _ _ _ lies, tt)))
+    record { room = omega arith; few = omega arith; whole = laid_is _ _ _ lies }
 
 pub returns : goal.returns
 returns c =

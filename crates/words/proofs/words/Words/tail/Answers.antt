@@ -13,7 +13,7 @@ returns-then-i-self c =
 pub invariant_of-rest : goal.invariant_of-rest
 invariant_of-rest c =
     let lies = tail_lies c.args.self.now (omega arith) (omega arith) c.args.i c.start-at.result c.if-i-self.false c.start-at.ensures.is c.copy_within.new.self c.copy_within-2.new.self c.copy_within.ensures.after c.copy_within-2.ensures.after in
-    (omega arith, (omega arith, (laid_is _ _ _ lies, tt)))
+    record { room = omega arith; few = omega arith; whole = laid_is _ _ _ lies }
 
 pub returns : goal.returns
 returns c =
