@@ -2,7 +2,8 @@
 ghost use Rattle.std.specs.Prelude.{◌≡◌, ◌+◌, ◌-◌, ◌≤◌, ◌&&◌, [], length, drop, if◌then◌else◌, nat_le, nat_lt, slice_index_or};
 ghost use Rattle.text.specs.Bytes.{held};
 ghost use Rattle.language.specs.Functions.{concatenated, function_of, applied, applied_by};
-ghost use Rattle.language.specs.declared.keyword.Function.TheVariants.{Length, Trans, Trim, Word};
+ghost use Rattle.language.specs.Functions.Function.{size, trans, trim, pick};
+ghost use Rattle.language.specs.Views.{function_seen};
 ghost use Rattle.words.specs.Listed.{listed};
 ghost use Rattle.expression.specs.Calls.{yielded};
 
@@ -56,7 +57,7 @@ fn concatenate(words: &Words, at: usize, value: &mut Text)
 
 fn measure(words: &Words, at: usize, value: &mut Text) -> Outcome
     requires { at ≤ 258 }
-    ensures { yielded result (held value.new) ≡ applied Length (drop at (listed words.now)) }
+    ensures { yielded result (held value.new) ≡ applied size (drop at (listed words.now)) }
 {
     if count(words, at) > 1 {
         return Outcome::Wrong;
@@ -70,7 +71,7 @@ fn measure(words: &Words, at: usize, value: &mut Text) -> Outcome
 
 fn translate_first(words: &Words, at: usize, value: &mut Text) -> Outcome
     requires { at ≤ 258 }
-    ensures { yielded result (held value.new) ≡ applied Trans (drop at (listed words.now)) }
+    ensures { yielded result (held value.new) ≡ applied trans (drop at (listed words.now)) }
 {
     let n = count(words, at);
     if n == 0 || n > 3 {
@@ -83,7 +84,7 @@ fn translate_first(words: &Words, at: usize, value: &mut Text) -> Outcome
 
 fn trim_first(words: &Words, at: usize, value: &mut Text) -> Outcome
     requires { at ≤ 258 }
-    ensures { yielded result (held value.new) ≡ applied Trim (drop at (listed words.now)) }
+    ensures { yielded result (held value.new) ≡ applied trim (drop at (listed words.now)) }
 {
     if count(words, at) > 1 {
         return Outcome::Wrong;
@@ -106,7 +107,7 @@ fn numbered_word(words: &Words, at: usize, k: usize) -> &[u8]
 
 fn choose(words: &Words, at: usize, value: &mut Text) -> Outcome
     requires { at ≤ 258 }
-    ensures { yielded result (held value.new) ≡ applied Word (drop at (listed words.now)) }
+    ensures { yielded result (held value.new) ≡ applied pick (drop at (listed words.now)) }
 {
     let n = count(words, at);
     let Some(z) = number(word_at(words, at, n.saturating_sub(1))) else {
@@ -121,7 +122,7 @@ fn choose(words: &Words, at: usize, value: &mut Text) -> Outcome
 
 fn apply(function: Function, words: &Words, at: usize, value: &mut Text) -> Outcome
     requires { at ≤ 258 }
-    ensures { yielded result (held value.new) ≡ applied function (drop at (listed words.now)) }
+    ensures { yielded result (held value.new) ≡ applied (function_seen function) (drop at (listed words.now)) }
 {
     match function {
         Function::Concat => {

@@ -1,13 +1,11 @@
 -- Conditions read by place.
-use Rattle.std.proofs.Common.{◌≡◌, ℕ, ◌<◌, ◌≤◌, Bool, List, [], ◌∷◌, length, get_or, drop, Some, None, Ok, Err, Option, Result, Ordering, sym, refl, ap, ◌∙◌, arith}
+use Rattle.std.proofs.Common.{◌≡◌, ◌<◌, ◌≤◌, List, [], ◌∷◌, length, get_or, drop, Some, None, Ok, Err, Option, Ordering, sym, refl, ap, ◌∙◌, arith}
 use Rattle.std.specs.Option.{ok_or}
 use Rattle.text.specs.Order.{word_order}
-use Rattle.language.specs.Conditions.{comparative_of, holds, condition_holds}
+use Rattle.language.specs.Conditions.{Comparative, comparative_of, holds, condition_holds}
 use Rattle.language.specs.Faults.{◌>>=◌}
 use Rattle.language.specs.Texts.{Bytes}
-use Rattle.language.specs.declared.fault.StatementFault.{StatementFault}
 use Rattle.language.specs.declared.fault.StatementFault.TheVariants.{Malformed}
-use Rattle.language.specs.declared.keyword.Comparative.{Comparative}
 
 pub short : (ws : List Bytes) → length ws < 3 → Err Malformed ≡ condition_holds (drop 1 ws)
 short [] h = refl

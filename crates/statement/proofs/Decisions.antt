@@ -1,15 +1,14 @@
 -- What the first word that is not null decides.
-use Rattle.std.proofs.Common.{◌≡◌, ℕ, Bool, true, false, cond, ◌||◌, List, [], ◌∷◌, drop, Some, None, Ok, Err, Option, Result, sym, refl, ap, ◌∙◌, ⊎_elim, arith}
+use Rattle.std.proofs.Common.{◌≡◌, ℕ, Bool, true, false, cond, ◌||◌, List, [], ◌∷◌, drop, Some, None, Ok, Err, Option, Result, sym, refl, ap, ◌∙◌, ⊎_elim}
 use Rattle.std.proofs.lemmas.Bool.{cases_Bool}
 use Rattle.machine.specs.Machines.{Line}
 use Rattle.language.specs.Assignments.{is_assignment, assignment}
 use Rattle.language.specs.Cores.{Core}
 use Rattle.language.specs.Faults.{◌>>=◌}
-use Rattle.language.specs.Orders.{control_of}
+use Rattle.language.specs.Orders.{Control, control_of}
 use Rattle.language.specs.Statements.{Meaning, nothing_done, misplaced, is_mark, led, statement, decided, clause}
 use Rattle.language.specs.Texts.{Bytes, is_null, has_asterisk, has_hyphen}
 use Rattle.language.specs.Words.{Word, word_of}
-use Rattle.language.specs.declared.keyword.Control.{Control}
 use Rattle.language.specs.declared.life.Stop.{Stop}
 use Rattle.statement.specs.Solid.{Solid, first_solid}
 

@@ -1,12 +1,12 @@
 -- The words of a clause taken one at a time.
-use Rattle.std.proofs.Common.{◌≡◌, ℕ, zero, suc, ◌-◌, ◌<◌, List, [], ◌∷◌, Some, None, Ok, Err, Option, Result, sym, refl, ap, ◌∙◌, arith}
+use Rattle.std.proofs.Common.{◌≡◌, ℕ, suc, ◌-◌, ◌<◌, List, [], Some, None, Ok, Err, Option, Result, sym, refl, ap, ◌∙◌, arith}
 use Rattle.language.specs.Cores.{Core}
 use Rattle.language.specs.Faults.{◌>>=◌}
 use Rattle.language.specs.Texts.{Bytes}
 use Rattle.language.specs.Words.{Word}
 use Rattle.language.specs.declared.life.Stop.{Stop}
-use Rattle.substitution.specs.Gathering.{grown, grown_all}
-use Rattle.statement.specs.Clauses.{Cut, Gatherings, before, clause_from, clause_of, clauses_behind}
+use Rattle.substitution.specs.Gathering.{grown}
+use Rattle.statement.specs.Clauses.{Cut, before, clause_from, clause_of, clauses_behind}
 use Rattle.statement.specs.Solid.{Solid, first_solid}
 
 put_before : (o : Option (List Bytes)) (t : Bytes) (r : Result Cut Stop) → clauses_behind (grown o t) r ≡ clauses_behind o (before t r)

@@ -1,14 +1,14 @@
 -- A clause judged by its words.
-use Rattle.std.proofs.Common.{◌≡◌, ℕ, zero, suc, ◌+◌, ◌-◌, ◌<◌, Bool, true, false, cond, eqb, List, [], ◌∷◌, ◌++◌, length, drop, Some, None, Ok, Err, codes, Option, Result, sym, refl, ap, ◌∙◌, ⊎_elim, append_assoc, arith, length-append}
+use Rattle.std.proofs.Common.{◌≡◌, ℕ, zero, suc, ◌+◌, Bool, true, false, cond, eqb, List, [], ◌∷◌, ◌++◌, length, drop, Some, None, Ok, Err, codes, Option, Result, sym, refl, ap, ◌∙◌, ⊎_elim, append_assoc, arith}
 use Rattle.std.proofs.lemmas.List.{append-nil, length_push}
 use Rattle.std.proofs.lemmas.Bool.{cases_Bool, ne_eqb, eq-eqb}
 use Rattle.machine.specs.Machines.{Line}
 use Rattle.language.specs.Conditions.{condition_holds}
 use Rattle.language.specs.Cores.{Core}
-use Rattle.language.specs.Faults.{◌>>=◌, ◌>>◌, by_statement, in_line}
+use Rattle.language.specs.Faults.{◌>>=◌, by_statement, in_line}
 use Rattle.language.specs.Statements.{Meaning, nothing_done, conditional, statement, clause}
 use Rattle.language.specs.Texts.{Bytes, is_null, fits}
-use Rattle.language.specs.Words.{Word, word_of, gathered}
+use Rattle.language.specs.Words.{Word, word_of}
 use Rattle.language.specs.declared.fault.Cause.TheVariants.{Statement}
 use Rattle.language.specs.declared.fault.StatementFault.{StatementFault}
 use Rattle.language.specs.declared.fault.StatementFault.TheVariants.{TooLong}
@@ -16,7 +16,7 @@ use Rattle.language.specs.declared.life.Stop.{Stop}
 use Rattle.substitution.specs.Gathering.{grown_all}
 use Rattle.substitution.proofs.Growing.{all_from}
 use Rattle.statement.specs.Clauses.{Cut, before, clause_from, clause_of, clauses_behind}
-use Rattle.statement.specs.Solid.{Solid, first_solid}
+use Rattle.statement.specs.Solid.{first_solid}
 
 abbrev Gathering : Type 0
 Gathering = Option (List Bytes) × List Word

@@ -8,6 +8,7 @@ use Rattle.language.specs.Orders.{obeyed, commanded}
 use Rattle.language.specs.Reads.{reading}
 use Rattle.language.specs.Statements.{Meaning, nothing_done, misplaced, statement}
 use Rattle.language.specs.Texts.{Bytes}
+use Rattle.language.specs.Views.{order_seen}
 use Rattle.language.specs.Words.{Word, words_in, gathered}
 use Rattle.language.specs.declared.life.Stop.{Stop}
 use Rattle.substitution.specs.Gathering.{grown}
@@ -21,7 +22,7 @@ lead_means line c st t Nothing = nothing_done line c st
 lead_means line c st t (Misplaced ws) = misplaced line c st (written_seen ws)
 lead_means line c st t (Assigns w ws) = assignment line c (word_seen w) (written_seen ws)
 lead_means line c st t (Reads ws) = reading line c (written_seen ws)
-lead_means line c st t (Obeys o ws) = gathered line (t ∷ []) (words_in line c (written_seen ws)) >>= λ ts. in_line line (obeyed c st o ts)
+lead_means line c st t (Obeys o ws) = gathered line (t ∷ []) (words_in line c (written_seen ws)) >>= λ ts. in_line line (obeyed c st (order_seen o) ts)
 lead_means line c st t (Commands ws) = gathered line (t ∷ []) (words_in line c (written_seen ws)) >>= λ ts. in_line line (commanded c t ts)
 
 abbrev pub result_means : ℕ → Core → List Line → Bytes → Result Lead Stop → Meaning

@@ -1,6 +1,7 @@
 // Conditions: a word, a comparative and a word.
 ghost use Rattle.std.specs.Prelude.{◌≡◌, drop};
 ghost use Rattle.language.specs.Conditions.{holds, condition_holds};
+ghost use Rattle.language.specs.Views.{comparative_seen};
 ghost use Rattle.words.specs.Listed.{listed};
 
 use keywords::comparative_of;
@@ -10,7 +11,7 @@ use text::compare_words;
 use words::Words;
 
 fn is_so(comparative: Comparative, order: Ordering) -> bool
-    ensures { result ≡ holds comparative order }
+    ensures { result ≡ holds (comparative_seen comparative) order }
 {
     match comparative {
         Comparative::Equal => order.is_eq(),

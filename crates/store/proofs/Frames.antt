@@ -1,8 +1,6 @@
 -- The table of calls, read from its end.
-use Rattle.std.proofs.Common.{◌≡◌, ℕ, ◌+◌, ◌-◌, ◌<◌, ◌≤◌, List, [], ◌∷◌, ◌++◌, map, reverse, length, get_or, take, set, sym, refl, ap, ◌∙◌, arith, length-take}
-use Rattle.std.proofs.lemmas.List.{length-map, length-reverse, map_push, reverse-append, take_more_set, take_more, get_or-take}
-use Rattle.language.specs.Cores.{Frame}
-use Rattle.language.specs.Store.{link_of}
+use Rattle.std.proofs.Common.{◌≡◌, ℕ, ◌+◌, ◌-◌, ◌<◌, List, [], ◌∷◌, ◌++◌, map, reverse, length, get_or, take, set, ap, ◌∙◌, arith, length-take}
+use Rattle.std.proofs.lemmas.List.{length-map, length-reverse, map_push, reverse-append, take_more_set, take_more}
 use Rattle.store.specs.Calls.{frame_seen, frames_seen}
 use Rattle.store.specs.declared.calls.Call.{Call}
 use Rattle.store.specs.declared.calls.Calls.{Calls}

@@ -1,14 +1,13 @@
 -- An argument's number tells its name.
-use Rattle.std.proofs.Common.{◌≡◌, ℕ, zero, suc, ◌+◌, ◌-◌, ◌*◌, ◌^◌, ◌<◌, ◌≤◌, Bool, true, false, cond, ◌&&◌, eqb, List, [], ◌∷◌, ◌++◌, length, get_or, drop, Some, None, decimal, Option, sym, refl, ap, ◌∙◌, ⊎_elim, arith}
+use Rattle.std.proofs.Common.{◌≡◌, ℕ, zero, suc, ◌+◌, ◌-◌, ◌*◌, ◌^◌, ◌<◌, ◌≤◌, true, false, eqb, List, [], ◌∷◌, length, drop, Some, None, decimal, Option, sym, refl, ap, ◌∙◌, ⊎_elim, arith}
 use Rattle.std.specs.Char.{is_ascii_digit}
-use Rattle.std.specs.Int.{IsInRange}
 use Rattle.std.specs.Str.{all_ascii_digits}
 use Rattle.std.proofs.lemmas.Fmt.{decimal-digits_value, decimal_digit}
 use Rattle.std.proofs.lemmas.Str.Parse.{IsNumeralModel, numerals_by_fold, tells_all_ascii_digits}
 use Rattle.std.proofs.lemmas.Bool.{cases_Bool, and_from, eqb-false, eqb-true, ne_eqb, true≢false}
-use Rattle.text.specs.Numbers.{digits_after, magnitude_of}
+use Rattle.text.specs.Numbers.{digits_after}
 use Rattle.language.specs.Names.{index_of}
-use Rattle.language.specs.Texts.{Bytes, starts_with, has_ampersand}
+use Rattle.language.specs.Texts.{Bytes, has_ampersand}
 
 -- the number that digits write after the number so far
 value_after : ℕ → List ℕ → ℕ

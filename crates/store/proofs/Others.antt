@@ -1,5 +1,5 @@
 -- Setting a name changes no other.
-use Rattle.std.proofs.Common.{◌≡◌, ℕ, zero, suc, ◌+◌, ◌-◌, ◌^◌, ◌<◌, ◌≤◌, Bool, true, false, cond, not, ◌&&◌, ltb, leb, ◌≢◌, List, [], ◌∷◌, ◌++◌, length, get_or, take, drop, set, Some, None, Ok, Err, decimal, Option, Result, unwrap_or, sym, refl, ap, ◌∙◌, ⊎_elim, arith, length-set}
+use Rattle.std.proofs.Common.{◌≡◌, ℕ, suc, ◌+◌, ◌-◌, ◌^◌, ◌<◌, ◌≤◌, Bool, true, false, cond, not, ◌&&◌, ltb, leb, ◌≢◌, List, [], ◌∷◌, ◌++◌, length, get_or, drop, set, Some, None, Ok, Err, decimal, Option, Result, unwrap_or, sym, refl, ap, ◌∙◌, ⊎_elim, arith, length-set}
 use Rattle.std.specs.List.{remove}
 use Rattle.std.specs.Str.{bytes_eq}
 use Rattle.std.proofs.lemmas.Slice.Eq.{bytes_eq-Decides}
@@ -9,17 +9,12 @@ use Rattle.text.specs.Search.{first_from}
 use Rattle.text.proofs.Rounds.{first_within}
 use Rattle.language.specs.Cores.{Core, Variable, with_variables, with_arguments}
 use Rattle.language.specs.Faults.{◌>>=◌, ◌>>◌, must}
-use Rattle.language.specs.Names.{kind_of, index_of, numbered_or, known_names}
+use Rattle.language.specs.Names.{KeptName, Kind, kind_of, index_of, numbered_or, known_names}
 use Rattle.language.specs.Store.{bears, variable, variable_at, value_at, value_of, value_by, kept_value, settable_by, assigned_at, put_by, put}
 use Rattle.tables.specs.Assigned.{assigned_to}
 use Rattle.language.specs.Texts.{Bytes, is_null, tabled, has_ampersand}
 use Rattle.language.specs.declared.fault.StoreFault.{StoreFault}
 use Rattle.language.specs.declared.fault.StoreFault.TheVariants.{CannotBeSet, TooManyVariables, ListTooLong}
-use Rattle.language.specs.declared.name.Kind.{Kind}
-use Rattle.language.specs.declared.name.Kind.TheVariants.{Kept, Own, Absent, Argument, Ordinary}
-use Rattle.language.specs.declared.name.KeptName.{KeptName}
-use Rattle.language.specs.declared.name.KeptName.TheVariants.{Ampersand, ArgumentString, Blank, CommandLine, Depth}
-use Rattle.language.specs.declared.name.KeptName.TheVariants.{From, Count, Place, Link, Code}
 use Rattle.store.specs.Others.{OthersKept}
 use Rattle.store.proofs.Numbered.{same_number, from_one}
 
@@ -137,11 +132,11 @@ module _ (n : Bytes) where
 
 -- no name of the table is an argument
 is_argument : Kind → Bool
-is_argument (Kept k) = false
-is_argument Own = false
-is_argument Absent = false
-is_argument (Argument j) = true
-is_argument Ordinary = false
+is_argument (Kind.kept k) = false
+is_argument Kind.own = false
+is_argument Kind.absent = false
+is_argument (Kind.argument j) = true
+is_argument Kind.ordinary = false
 
 none_is : List (Bytes × Kind) → Bool
 none_is [] = true
@@ -151,38 +146,38 @@ none_known : none_is known_names ≡ true
 unfolding none_is is_argument
 none_known = refl
 
-no_argument : (es : List (Bytes × Kind)) (n : Bytes) (j : ℕ) → none_is es ≡ true → tabled es n ≡ Some (Argument j) → ⊥
+no_argument : (es : List (Bytes × Kind)) (n : Bytes) (j : ℕ) → none_is es ≡ true → tabled es n ≡ Some (Kind.argument j) → ⊥
 unfolding none_is is_argument
 no_argument [] n j a e = let z : ◌≡◌ {A = ℕ} 0 1 = cc in omega arith
 no_argument (x ∷ xs) n j a e =
     ⊎_elim
     (λ (h : bytes_eq x.0 n ≡ true).
-    let f : ◌≡◌ {A = Option Kind} (Some x.1) (Some (Argument j)) = rw h at e in
-    let g : x.1 ≡ Argument j = cc in
+    let f : ◌≡◌ {A = Option Kind} (Some x.1) (Some (Kind.argument j)) = rw h at e in
+    let g : x.1 ≡ Kind.argument j = cc in
     let p = (and_parts _ _ a).0 in
-    let q : not (is_argument (Argument j)) ≡ true = ap (λ (k : Kind). not (is_argument k)) (sym g) ∙ p in
+    let q : not (is_argument (Kind.argument j)) ≡ true = ap (λ (k : Kind). not (is_argument k)) (sym g) ∙ p in
     true≢false (sym q))
     (λ (h : bytes_eq x.0 n ≡ false). no_argument xs n j (and_parts _ _ a).1 (rw h at e))
     (cases_Bool (bytes_eq x.0 n))
 
 -- what a name's number is, where it is an argument
-by_number : (j : ℕ) (o : Option ℕ) → numbered_or Ordinary o ≡ Argument j → o ≡ Some j
+by_number : (j : ℕ) (o : Option ℕ) → numbered_or Kind.ordinary o ≡ Kind.argument j → o ≡ Some j
 by_number j None e = absurd (let z : ◌≡◌ {A = ℕ} 0 1 = cc in omega arith)
 by_number j (Some i) e = let f : i ≡ j = cc in ap (λ (x : ℕ). Some x) f
 
-numbered_by : (n : Bytes) (j : ℕ) (o : Option Kind) → o ≡ tabled known_names n → unwrap_or o (numbered_or Ordinary (index_of (drop 1 n))) ≡ Argument j → index_of (drop 1 n) ≡ Some j
+numbered_by : (n : Bytes) (j : ℕ) (o : Option Kind) → o ≡ tabled known_names n → unwrap_or o (numbered_or Kind.ordinary (index_of (drop 1 n))) ≡ Kind.argument j → index_of (drop 1 n) ≡ Some j
 numbered_by n j None e q = by_number j (index_of (drop 1 n)) q
 numbered_by n j (Some k) e q =
-    let f : k ≡ Argument j = q in
+    let f : k ≡ Kind.argument j = q in
     absurd (no_argument known_names n j none_known (sym e ∙ ap (λ (x : Kind). Some x) f))
 
-numbered : (n : Bytes) (j : ℕ) → kind_of n ≡ Argument j → index_of (drop 1 n) ≡ Some j
+numbered : (n : Bytes) (j : ℕ) → kind_of n ≡ Kind.argument j → index_of (drop 1 n) ≡ Some j
 unfolding kind_of
 numbered n j q = numbered_by n j (tabled known_names n) refl q
 
 module _ (c : Core) (n : Bytes) (amp : has_ampersand n ≡ true) (m : Bytes) (also : has_ampersand m ≡ true) (ne : m ≡ n → ⊥) where
   -- an argument changed: another name that is an argument has another number
-  argument_kept : (ws : List Bytes) (t : Bytes) (j : ℕ) → kind_of n ≡ Argument j → j ≤ length ws → length ws < 2 ^ 64 → (i : ℕ) → kind_of m ≡ Argument i → get_or (set ws (j - 1) t) (i - 1) [] ≡ get_or ws (i - 1) []
+  argument_kept : (ws : List Bytes) (t : Bytes) (j : ℕ) → kind_of n ≡ Kind.argument j → j ≤ length ws → length ws < 2 ^ 64 → (i : ℕ) → kind_of m ≡ Kind.argument i → get_or (set ws (j - 1) t) (i - 1) [] ≡ get_or ws (i - 1) []
   argument_kept ws t j p h l i q =
       let a = numbered n j p in
       let b = numbered m i q in
@@ -194,42 +189,42 @@ module _ (c : Core) (n : Bytes) (amp : has_ampersand n ≡ true) (m : Bytes) (al
       get_or-set_other ws (j - 1) (i - 1) t [] apart
 
   kept_count : (ws : List Bytes) (k : KeptName) → length ws ≡ length c.arguments → kept_value (with_arguments c ws) k ≡ kept_value c k
-  kept_count ws Ampersand e = refl
-  kept_count ws ArgumentString e = refl
-  kept_count ws Blank e = refl
-  kept_count ws CommandLine e = refl
-  kept_count ws Depth e = refl
-  kept_count ws From e = refl
-  kept_count ws Count e = ap decimal e
-  kept_count ws Place e = refl
-  kept_count ws Link e = refl
-  kept_count ws Code e = refl
+  kept_count ws KeptName.ampersand e = refl
+  kept_count ws KeptName.string e = refl
+  kept_count ws KeptName.blank e = refl
+  kept_count ws KeptName.coline e = refl
+  kept_count ws KeptName.depth e = refl
+  kept_count ws KeptName.from e = refl
+  kept_count ws KeptName.count e = ap decimal e
+  kept_count ws KeptName.line e = refl
+  kept_count ws KeptName.link e = refl
+  kept_count ws KeptName.code e = refl
 
   kept_variables : (vs : List Variable) (k : KeptName) → kept_value (with_variables c vs) k ≡ kept_value c k
-  kept_variables vs Ampersand = refl
-  kept_variables vs ArgumentString = refl
-  kept_variables vs Blank = refl
-  kept_variables vs CommandLine = refl
-  kept_variables vs Depth = refl
-  kept_variables vs From = refl
-  kept_variables vs Count = refl
-  kept_variables vs Place = refl
-  kept_variables vs Link = refl
-  kept_variables vs Code = refl
+  kept_variables vs KeptName.ampersand = refl
+  kept_variables vs KeptName.string = refl
+  kept_variables vs KeptName.blank = refl
+  kept_variables vs KeptName.coline = refl
+  kept_variables vs KeptName.depth = refl
+  kept_variables vs KeptName.from = refl
+  kept_variables vs KeptName.count = refl
+  kept_variables vs KeptName.line = refl
+  kept_variables vs KeptName.link = refl
+  kept_variables vs KeptName.code = refl
 
-  by_argument : (t : Bytes) (j : ℕ) → kind_of n ≡ Argument j → j ≤ length c.arguments → length c.arguments < 2 ^ 64 → (k : Kind) → k ≡ kind_of m → value_by (with_arguments c (set c.arguments (j - 1) t)) m k ≡ value_by c m k
-  by_argument t j p h l (Kept k) e = ap (λ (v : Bytes). Some v) (kept_count (set c.arguments (j - 1) t) k (length-set _ _ _))
-  by_argument t j p h l Own e = refl
-  by_argument t j p h l Absent e = refl
-  by_argument t j p h l (Argument i) e = ap (λ (v : Bytes). Some v) (argument_kept c.arguments t j p h l i (sym e))
-  by_argument t j p h l Ordinary e = refl
+  by_argument : (t : Bytes) (j : ℕ) → kind_of n ≡ Kind.argument j → j ≤ length c.arguments → length c.arguments < 2 ^ 64 → (k : Kind) → k ≡ kind_of m → value_by (with_arguments c (set c.arguments (j - 1) t)) m k ≡ value_by c m k
+  by_argument t j p h l (Kind.kept k) e = ap (λ (v : Bytes). Some v) (kept_count (set c.arguments (j - 1) t) k (length-set _ _ _))
+  by_argument t j p h l Kind.own e = refl
+  by_argument t j p h l Kind.absent e = refl
+  by_argument t j p h l (Kind.argument i) e = ap (λ (v : Bytes). Some v) (argument_kept c.arguments t j p h l i (sym e))
+  by_argument t j p h l Kind.ordinary e = refl
 
   by_variable : (vs : List Variable) (t : Bytes) → assigned_to c.variables n t ≡ Ok vs → (k : Kind) → value_by (with_variables c vs) m k ≡ value_by c m k
-  by_variable vs t e (Kept k) = ap (λ (v : Bytes). Some v) (kept_variables vs k)
-  by_variable vs t e Own = refl
-  by_variable vs t e Absent = refl
-  by_variable vs t e (Argument i) = refl
-  by_variable vs t e Ordinary =
+  by_variable vs t e (Kind.kept k) = ap (λ (v : Bytes). Some v) (kept_variables vs k)
+  by_variable vs t e Kind.own = refl
+  by_variable vs t e Kind.absent = refl
+  by_variable vs t e (Kind.argument i) = refl
+  by_variable vs t e Kind.ordinary =
       ap (λ (v : Bytes). Some v)
       (looked_is vs m ∙ at_other n m ne c.variables vs t (variable_at c.variables n) refl e ∙ sym (looked_is c.variables m))
 
@@ -237,7 +232,7 @@ module _ (c : Core) (n : Bytes) (amp : has_ampersand n ≡ true) (m : Bytes) (al
   variable_set t d (Ok vs) e q = let f : d ≡ with_variables c vs = cc in ap (λ (x : Core). value_of x m) f ∙ by_variable vs t (sym e) (kind_of m)
   variable_set t d (Err f) e q = absurd (let z : ◌≡◌ {A = ℕ} 0 1 = cc in omega arith)
 
-  argument_set : (t : Bytes) (d : Core) (j : ℕ) → kind_of n ≡ Argument j → length c.arguments < 2 ^ 64 → (b s : Bool) → s ≡ leb j (length c.arguments) → (must s CannotBeSet >> (must b ListTooLong >> Ok (with_arguments c (set c.arguments (j - 1) t)))) ≡ Ok d → value_of d m ≡ value_of c m
+  argument_set : (t : Bytes) (d : Core) (j : ℕ) → kind_of n ≡ Kind.argument j → length c.arguments < 2 ^ 64 → (b s : Bool) → s ≡ leb j (length c.arguments) → (must s CannotBeSet >> (must b ListTooLong >> Ok (with_arguments c (set c.arguments (j - 1) t)))) ≡ Ok d → value_of d m ≡ value_of c m
   argument_set t d j p l true true e q =
       let f : d ≡ with_arguments c (set c.arguments (j - 1) t) = cc in
       ap (λ (x : Core). value_of x m) f ∙ by_argument t j p (leb-true _ _ (sym e)) l (kind_of m) refl
@@ -245,11 +240,11 @@ module _ (c : Core) (n : Bytes) (amp : has_ampersand n ≡ true) (m : Bytes) (al
   argument_set t d j p l b false e q = absurd (let z : ◌≡◌ {A = ℕ} 0 1 = cc in omega arith)
 
   put_by_lem : (t : Bytes) (d : Core) → length c.arguments < 2 ^ 64 → (k : Kind) → k ≡ kind_of n → (must (settable_by c k) CannotBeSet >> put_by c n t k) ≡ Ok d → value_of d m ≡ value_of c m
-  put_by_lem t d l (Kept k) e q = absurd (let z : ◌≡◌ {A = ℕ} 0 1 = cc in omega arith)
-  put_by_lem t d l Own e q = absurd (let z : ◌≡◌ {A = ℕ} 0 1 = cc in omega arith)
-  put_by_lem t d l Absent e q = absurd (let z : ◌≡◌ {A = ℕ} 0 1 = cc in omega arith)
-  put_by_lem t d l (Argument j) e q = argument_set t d j (sym e) l _ _ refl q
-  put_by_lem t d l Ordinary e q = variable_set t d _ refl q
+  put_by_lem t d l (Kind.kept k) e q = absurd (let z : ◌≡◌ {A = ℕ} 0 1 = cc in omega arith)
+  put_by_lem t d l Kind.own e q = absurd (let z : ◌≡◌ {A = ℕ} 0 1 = cc in omega arith)
+  put_by_lem t d l Kind.absent e q = absurd (let z : ◌≡◌ {A = ℕ} 0 1 = cc in omega arith)
+  put_by_lem t d l (Kind.argument j) e q = argument_set t d j (sym e) l _ _ refl q
+  put_by_lem t d l Kind.ordinary e q = variable_set t d _ refl q
 
 pub others_kept : (c d : Core) (n t : Bytes) → length c.arguments < 2 ^ 64 → has_ampersand n ≡ true → put c n t ≡ Ok d → OthersKept n c d
 others_kept c d n t l amp e m also ne = put_by_lem c n amp m also ne t d l (kind_of n) refl e

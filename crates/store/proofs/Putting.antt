@@ -1,14 +1,13 @@
 -- A name set through its kind.
-use Rattle.std.proofs.Common.{◌≡◌, ◌≤◌, Bool, true, false, length, is_ok, Ok, Err, MatchBool, Result, sym, refl, ap, ◌∙◌, arith}
+use Rattle.std.proofs.Common.{◌≡◌, ◌≤◌, Bool, true, false, length, is_ok, Ok, Err, MatchBool, Result, sym, ap, ◌∙◌, arith}
 use Rattle.keywords.specs.Arguments.{capped_kind}
 use Rattle.language.specs.Cores.{Core}
 use Rattle.language.specs.Faults.{◌>>◌, must, giving}
-use Rattle.language.specs.Names.{kind_of}
+use Rattle.language.specs.Names.{Kind, kind_of}
 use Rattle.language.specs.Store.{value_of, settable, settable_by, put_by, put}
 use Rattle.language.specs.Texts.{Bytes, has_ampersand}
 use Rattle.language.specs.declared.fault.StoreFault.{StoreFault}
 use Rattle.language.specs.declared.fault.StoreFault.TheVariants.{CannotBeSet}
-use Rattle.language.specs.declared.name.Kind.{Kind}
 use Rattle.store.specs.Others.{OthersKept}
 use Rattle.store.proofs.Capped.{settable_capped, put_capped}
 use Rattle.store.proofs.Others.{others_kept}

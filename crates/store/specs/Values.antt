@@ -1,5 +1,5 @@
 -- What a value kept stands for.
-use Rattle.std.specs.Prelude.{ℕ, ◌≤◌, List, length, Some, None, decimal, Option}
+use Rattle.std.specs.Prelude.{◌≤◌, length, Some, None, decimal, Option}
 use Rattle.std.specs.Fmt.{signed_decimal}
 use Rattle.language.specs.Texts.{Bytes as Text}
 use Rattle.store.specs.declared.value.Value.{Value}

@@ -1,13 +1,13 @@
 -- Words gathered one at a time are the words gathered.
-use Rattle.std.proofs.Common.{◌≡◌, ℕ, suc, ◌+◌, ◌<◌, ◌≤◌, Bool, true, false, cond, not, eqb, ltb, leb, List, [], ◌∷◌, ◌++◌, length, drop, Some, None, Ok, Err, MatchBool, Option, Result, sym, refl, ap, ◌∙◌, ⊎_elim, append_assoc, arith, length-append}
+use Rattle.std.proofs.Common.{◌≡◌, ℕ, suc, ◌+◌, ◌≤◌, Bool, true, false, cond, eqb, ltb, List, [], ◌∷◌, ◌++◌, length, drop, Some, None, Ok, Err, MatchBool, Option, Result, sym, refl, ap, ◌∙◌, ⊎_elim, append_assoc, arith, length-append}
 use Rattle.std.specs.List.{prefix_len}
 use Rattle.std.proofs.lemmas.List.{append-nil, drop_at}
-use Rattle.std.proofs.lemmas.Bool.{cases_Bool, leb-true, leb-false, le-leb, lt-leb, ltb-false, not-true, not-false}
+use Rattle.std.proofs.lemmas.Bool.{cases_Bool, leb-false, lt-leb, ltb-false}
 use Rattle.text.specs.Words.{close, differs}
 use Rattle.language.specs.Cores.{Core}
 use Rattle.language.specs.Faults.{◌>>=◌, in_word}
-use Rattle.language.specs.Texts.{Bytes, is_null, spaced, behind_blanks, fits}
-use Rattle.language.specs.Words.{Word, substituted, word_of, words_in, gathered}
+use Rattle.language.specs.Texts.{Bytes, spaced, behind_blanks, fits}
+use Rattle.language.specs.Words.{Word, substituted, words_in, gathered}
 use Rattle.language.specs.declared.fault.WordFault.{WordFault}
 use Rattle.language.specs.declared.fault.Cause.TheVariants.{Statement}
 use Rattle.language.specs.declared.fault.StatementFault.TheVariants.{TooLong}

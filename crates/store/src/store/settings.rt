@@ -3,6 +3,7 @@ ghost use Rattle.std.specs.Prelude.{◌≡◌, ◌≤◌, true, length, is_ok, M
 ghost use Rattle.language.specs.Faults.{giving};
 ghost use Rattle.language.specs.Store.{settable, settable_by, put_by, put};
 ghost use Rattle.language.specs.Texts.{has_ampersand};
+ghost use Rattle.language.specs.Views.{kind_seen};
 ghost use Rattle.store.specs.Others.{OthersKept};
 ghost use Rattle.store.specs.Stores.{core_seen};
 
@@ -12,7 +13,7 @@ use language::{Kind, StoreFault};
 
 impl<'b, 'd> Store<'b, 'd> {
     fn is_settable_by(&self, kind: Kind) -> bool
-        ensures { result ≡ settable_by (core_seen self.now) kind }
+        ensures { result ≡ settable_by (core_seen self.now) (kind_seen kind) }
     {
         match kind {
             Kind::Kept(_) | Kind::Own | Kind::Absent => false,
@@ -24,7 +25,7 @@ impl<'b, 'd> Store<'b, 'd> {
     fn put_by(&mut self, name: &[u8], value: &[u8], kind: Kind) -> Result<(), StoreFault>
         requires name { length name.now ≤ 255 }
         requires value { length value.now ≤ 255 }
-        ensures is { giving result (core_seen self.new) ≡ put_by (core_seen self.old) name.now value.now kind }
+        ensures is { giving result (core_seen self.new) ≡ put_by (core_seen self.old) name.now value.now (kind_seen kind) }
         ensures unless { MatchBool (is_ok result) (Unit {0}) (core_seen self.new ≡ core_seen self.old) }
     {
         match kind {

@@ -1,6 +1,7 @@
 // The value of every name.
 ghost use Rattle.std.specs.Prelude.{◌≡◌, ℕ, List, Some};
 ghost use Rattle.language.specs.Store.{kept_value, value_by, value_of};
+ghost use Rattle.language.specs.Views.{kept_seen, kind_seen};
 ghost use Rattle.store.specs.Stores.{core_seen};
 ghost use Rattle.store.specs.Values.{value_seen, Short};
 
@@ -11,7 +12,7 @@ use language::{KeptName, Kind};
 
 impl<'b, 'd> Store<'b, 'd> {
     fn kept_value(&self, name: KeptName) -> Value<'_>
-        ensures is { (n : List ℕ) → value_seen n result ≡ Some (kept_value (core_seen self.now) name) }
+        ensures is { (n : List ℕ) → value_seen n result ≡ Some (kept_value (core_seen self.now) (kept_seen name)) }
         ensures short { Short result }
     {
         match name {
@@ -29,7 +30,7 @@ impl<'b, 'd> Store<'b, 'd> {
     }
 
     fn value_by(&self, name: &[u8], kind: Kind) -> Value<'_>
-        ensures is { value_seen name.now result ≡ value_by (core_seen self.now) name.now kind }
+        ensures is { value_seen name.now result ≡ value_by (core_seen self.now) name.now (kind_seen kind) }
         ensures short { Short result }
     {
         match kind {

@@ -1,4 +1,4 @@
-use Rattle.std.proofs.Common.{◌≡◌, ◌-◌, ◌≤◌, List, [], length, Ok, Option, sym, ap, ◌∙◌, subst, arith}
+use Rattle.std.proofs.Common.{◌-◌, List, Ok, Option, sym, ap, ◌∙◌, subst, arith}
 use Rattle.language.specs.Texts.{Bytes}
 use Rattle.language.specs.Words.{Word}
 use Rattle.store.specs.Stores.{core_seen}
@@ -7,7 +7,7 @@ use Rattle.substitution.specs.Scratches.{scratch_held}
 use Rattle.substitution.specs.Writing.{written_seen}
 use Rattle.substitution.specs.declared.written.Written.{Written}
 use Rattle.statement.specs.Solid.{found_in, FewFound}
-use Rattle.statement.specs.Clauses.{Gatherings, clause_of, clauses_behind}
+use Rattle.statement.specs.Clauses.{clause_of, clauses_behind}
 use Rattle.statement.proofs.Turns.{all_taken, fault_met, none_found, one_found}
 use Rattle.statement.proofs.clause.take_clause.Goals as goal
 

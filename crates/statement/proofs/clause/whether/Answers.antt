@@ -1,12 +1,11 @@
-use Rattle.std.proofs.Common.{◌≡◌, Bool, true, false, cond, List, [], ◌∷◌, Some, None, Ok, Err, codes, Option, sym, refl, ap, ◌∙◌}
+use Rattle.std.proofs.Common.{◌≡◌, Bool, true, false, cond, List, [], ◌∷◌, Some, None, Ok, Err, codes, Option, sym, ap, ◌∙◌}
 use Rattle.language.specs.Texts.{Bytes}
-use Rattle.language.specs.Words.{Word}
 use Rattle.language.specs.declared.life.Stop.{Stop}
 use Rattle.words.specs.Listed.{listed}
 use Rattle.store.specs.Stores.{core_seen}
-use Rattle.substitution.specs.Gathering.{gathering, grown}
+use Rattle.substitution.specs.Gathering.{grown}
 use Rattle.substitution.specs.Writing.{written_seen}
-use Rattle.statement.specs.Clauses.{Cut, clause_of, clause_into, clauses_behind}
+use Rattle.statement.specs.Clauses.{clause_of, clauses_behind}
 use Rattle.statement.proofs.Whether.{clause_fault, clause_long, clause_fits}
 use Rattle.statement.proofs.clause.whether.Goals as goal
 

@@ -1,8 +1,9 @@
-use Rattle.std.proofs.Common.{◌≡◌, ℕ, List, [], Some, None, Ok, Option, sym, refl, ap, ◌∙◌, subst}
+use Rattle.std.proofs.Common.{List, [], Some, None, Ok, Option, sym, ap, ◌∙◌, subst}
+use Rattle.language.specs.Orders as orders
 use Rattle.language.specs.Orders.{control_of}
+use Rattle.language.specs.Views.{order_seen, control_seen}
 use Rattle.language.specs.Texts.{Bytes}
 use Rattle.language.specs.declared.keyword.Control.{Control}
-use Rattle.language.specs.declared.keyword.Control.TheVariants.{If, Read, Obeys}
 use Rattle.store.specs.Stores.{core_seen}
 use Rattle.substitution.specs.Gathering.{grown}
 use Rattle.substitution.specs.Scratches.{scratch_held}
@@ -49,9 +50,9 @@ returns-in-If c =
       first = scratch_held c.first_solid.new.text;
       left = (c.requires.none, few);
       means = λ st.
-          decided_led c.args.line (core_seen c.args.store.now) st (written_seen c.args.words) (scratch_held c.first_solid.new.text) (written_seen c.in-Some.after) (Some If)
+          decided_led c.args.line (core_seen c.args.store.now) st (written_seen c.args.words) (scratch_held c.first_solid.new.text) (written_seen c.in-Some.after) (Some orders.Control.whether)
           (ap (λ (f : Option Written). found_in (Ok f) (scratch_held c.first_solid.new.text)) (sym c.in-Some.is) ∙ c.in-Ok.ensures.is)
-          (ap (λ (k : Control). Some k) (sym c.in-If.is) ∙ c.in-Some-control_of.ensures ∙ ap control_of c.as_bytes.ensures.is);
+          (ap (λ (k : Control). Some (control_seen k)) (sym c.in-If.is) ∙ c.in-Some-control_of.ensures ∙ ap control_of c.as_bytes.ensures.is);
     }
 
 pub returns-in-Read : goal.returns-in-Read
@@ -61,9 +62,9 @@ returns-in-Read c =
       first = scratch_held c.first_solid.new.text;
       left = few.0;
       means = λ st.
-          decided_led c.args.line (core_seen c.args.store.now) st (written_seen c.args.words) (scratch_held c.first_solid.new.text) (written_seen c.in-Some.after) (Some Read)
+          decided_led c.args.line (core_seen c.args.store.now) st (written_seen c.args.words) (scratch_held c.first_solid.new.text) (written_seen c.in-Some.after) (Some orders.Control.read)
           (ap (λ (f : Option Written). found_in (Ok f) (scratch_held c.first_solid.new.text)) (sym c.in-Some.is) ∙ c.in-Ok.ensures.is)
-          (ap (λ (k : Control). Some k) (sym c.in-Read.is) ∙ c.in-Some-control_of.ensures ∙ ap control_of c.as_bytes.ensures.is);
+          (ap (λ (k : Control). Some (control_seen k)) (sym c.in-Read.is) ∙ c.in-Some-control_of.ensures ∙ ap control_of c.as_bytes.ensures.is);
     }
 
 pub returns-in-Obeys : goal.returns-in-Obeys
@@ -73,7 +74,7 @@ returns-in-Obeys c =
       first = scratch_held c.first_solid.new.text;
       left = (c.take-in-Obeys.ensures ∙ ap (λ (o : Option (List Bytes)). grown o c.as_bytes-in-Obeys.result.now) c.requires.none ∙ ap (grown (Some [])) c.as_bytes-in-Obeys.ensures.is, few.0);
       means = λ st.
-          decided_led c.args.line (core_seen c.args.store.now) st (written_seen c.args.words) (scratch_held c.first_solid.new.text) (written_seen c.in-Some.after) (Some (Obeys c.in-Obeys.order))
+          decided_led c.args.line (core_seen c.args.store.now) st (written_seen c.args.words) (scratch_held c.first_solid.new.text) (written_seen c.in-Some.after) (Some (orders.Control.obeys (order_seen c.in-Obeys.order)))
           (ap (λ (f : Option Written). found_in (Ok f) (scratch_held c.first_solid.new.text)) (sym c.in-Some.is) ∙ c.in-Ok.ensures.is)
-          (ap (λ (k : Control). Some k) (sym c.in-Obeys.is) ∙ c.in-Some-control_of.ensures ∙ ap control_of c.as_bytes.ensures.is);
+          (ap (λ (k : Control). Some (control_seen k)) (sym c.in-Obeys.is) ∙ c.in-Some-control_of.ensures ∙ ap control_of c.as_bytes.ensures.is);
     }

@@ -1,5 +1,4 @@
-use Rattle.std.proofs.Common.{List, sym, ap, arith}
-use Rattle.language.specs.Cores.{Frame}
+use Rattle.std.proofs.Common.{sym, ap, arith}
 use Rattle.language.specs.Store.{link_of}
 use Rattle.store.proofs.Frames.{frames_pop}
 use Rattle.store.proofs.calls.Calls.link.Goals as goal

@@ -1,7 +1,7 @@
 use Rattle.std.proofs.Common.{◌≡◌, refl}
-use Rattle.language.specs.Cores.{Core}
 use Rattle.language.specs.Faults.{giving}
 use Rattle.language.specs.Store.{put}
+use Rattle.language.specs.Views.{kind_seen}
 use Rattle.store.specs.Stores.{core_seen}
 use Rattle.store.proofs.Capped.{listed_few}
 use Rattle.store.proofs.Putting.{put_not, put_done, put_others}
@@ -11,7 +11,7 @@ pub returns-then-not-is_settable_by : goal.returns-then-not-is_settable_by
 returns-then-not-is_settable_by c =
     record {
       is =
-          put_not (core_seen c.args.self.now) (listed_few c.args.self.now.arguments) c.args.name.now c.args.value.now c.kind_of-kind.result
+          put_not (core_seen c.args.self.now) (listed_few c.args.self.now.arguments) c.args.name.now c.args.value.now (kind_seen c.kind_of-kind.result)
           c.kind_of-kind.ensures c.if-not-is_settable_by.ensures;
       unless = refl;
       others = λ amp m also ne. refl;
@@ -19,14 +19,14 @@ returns-then-not-is_settable_by c =
 
 pub returns : goal.returns
 returns c =
-    let is : giving c.put_by_lem.result (core_seen c.put_by_lem.new.self) ≡ put (core_seen c.args.self.now) c.args.name.now c.args.value.now =
-    put_done (core_seen c.args.self.now) (listed_few c.args.self.now.arguments) c.args.name.now c.args.value.now c.kind_of-kind.result
-    c.kind_of-kind.ensures _ c.if-not-is_settable_by.ensures c.put_by_lem.ensures.is
+    let is : giving c.put_by.result (core_seen c.put_by.new.self) ≡ put (core_seen c.args.self.now) c.args.name.now c.args.value.now =
+    put_done (core_seen c.args.self.now) (listed_few c.args.self.now.arguments) c.args.name.now c.args.value.now (kind_seen c.kind_of-kind.result)
+    c.kind_of-kind.ensures _ c.if-not-is_settable_by.ensures c.put_by.ensures.is
     in
     record {
       is = is;
-      unless = c.put_by_lem.ensures.unless;
+      unless = c.put_by.ensures.unless;
       others =
-          put_others (core_seen c.args.self.now) (listed_few c.args.self.now.arguments) c.args.name.now c.args.value.now c.kind_of-kind.result
-          c.kind_of-kind.ensures (core_seen c.put_by_lem.new.self) c.put_by_lem.result is c.put_by_lem.ensures.unless;
+          put_others (core_seen c.args.self.now) (listed_few c.args.self.now.arguments) c.args.name.now c.args.value.now (kind_seen c.kind_of-kind.result)
+          c.kind_of-kind.ensures (core_seen c.put_by.new.self) c.put_by.result is c.put_by.ensures.unless;
     }

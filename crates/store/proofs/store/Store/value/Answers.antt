@@ -1,7 +1,6 @@
 use Rattle.std.proofs.Common.{ap, ◌∙◌}
-use Rattle.language.specs.Names.{kind_of}
+use Rattle.language.specs.Names.{Kind, kind_of}
 use Rattle.language.specs.Store.{value_by}
-use Rattle.language.specs.declared.name.Kind.{Kind}
 use Rattle.store.specs.Stores.{core_seen}
 use Rattle.store.proofs.Capped.{listed_few, value_capped}
 use Rattle.store.proofs.store.Store.value.Goals as goal

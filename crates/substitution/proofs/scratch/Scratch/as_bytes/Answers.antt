@@ -1,4 +1,4 @@
-use Rattle.std.proofs.Common.{ℕ, ◌≤◌, List, length, ap, arith}
+use Rattle.std.proofs.Common.{length, ap, arith}
 use Rattle.substitution.proofs.Ends.{held_length, held_part}
 use Rattle.substitution.proofs.scratch.Scratch.as_bytes.Goals as goal
 

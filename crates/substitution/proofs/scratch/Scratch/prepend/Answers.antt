@@ -1,5 +1,4 @@
-use Rattle.std.proofs.Common.{arith, length-set}
-use Rattle.substitution.proofs.Ends.{held_length, held_more}
+use Rattle.substitution.proofs.Ends.{held_more}
 use Rattle.substitution.proofs.scratch.Scratch.prepend.Goals as goal
 
 pub returns : goal.returns
