@@ -1,9 +1,9 @@
 // The program: its words, the file that they name, and what it writes.
 #![tactic(auto)]
 
-use anyhow::anyhow;
 use console::{Answer, HELP, check, list, meaning, orders};
 use std::io::{Read, Write};
+use std::process::ExitCode;
 use std::{env, fs};
 
 // What the program is asked to do.
@@ -33,62 +33,66 @@ fn asked(words: &[String]) -> Task<'_> {
 }
 
 // The bytes of a file; where they cannot be had, a message that names it.
-fn source(rt: &HostRuntime, path: &str) -> anyhow::Result<Vec<u8>> {
+fn source(rt: &HostRuntime, path: &str) -> anyhow::Result<Option<Vec<u8>>> {
     match fs::read(rt, path) {
-        Ok(bytes) => Ok(bytes),
+        Ok(bytes) => Ok(Some(bytes)),
         Err(error) => {
             eprintln!(rt; "exec2: cannot read {path}: {error}")?;
-            Err(anyhow!("the script was not read"))
+            Ok(None)
         }
     }
 }
 
 // Writes an answer; a refusal is put in words too, and fails.
-fn show(rt: &HostRuntime, path: &str, answer: Answer) -> anyhow::Result<()> {
+fn show(rt: &HostRuntime, path: &str, answer: Answer) -> anyhow::Result<ExitCode> {
     rt.stdout().write_all(answer.text.as_slice())?;
     let Some(refusal) = answer.refusal else {
-        return Ok(());
+        return Ok(ExitCode::SUCCESS);
     };
     let meaning = meaning(refusal);
     match refusal.line() {
         Some(line) => eprintln!(rt; "exec2: {path}: line {line}: {meaning}")?,
         None => eprintln!(rt; "exec2: {path}: {meaning}")?,
     }
-    Err(anyhow!("the script is refused"))
+    Ok(ExitCode::FAILURE)
 }
 
 // Orders from standard input, each with its code, and then the board.
-fn play_orders(rt: &HostRuntime) -> anyhow::Result<()> {
+fn play_orders(rt: &HostRuntime) -> anyhow::Result<ExitCode> {
     let mut input = Vec::new(rt.alloc());
     rt.stdin().read_to_end(&mut input)?;
     let text = orders(rt.alloc(), input.as_slice())?;
     rt.stdout().write_all(text.as_slice())?;
-    Ok(())
+    Ok(ExitCode::SUCCESS)
 }
 
-fn run(rt: &HostRuntime, task: Task<'_>) -> anyhow::Result<()> {
+fn run(rt: &HostRuntime, task: Task<'_>) -> anyhow::Result<ExitCode> {
     match task {
         Task::Check(path) => {
-            let bytes = source(rt, path)?;
+            let Some(bytes) = source(rt, path)? else {
+                return Ok(ExitCode::FAILURE);
+            };
             show(rt, path, check(rt.alloc(), bytes.as_slice())?)
         }
         Task::List(path) => {
-            let bytes = source(rt, path)?;
+            let Some(bytes) = source(rt, path)? else {
+                return Ok(ExitCode::FAILURE);
+            };
             show(rt, path, list(rt.alloc(), bytes.as_slice())?)
         }
         Task::Orders => play_orders(rt),
         Task::Help => {
             print!(rt; "{HELP}")?;
-            Ok(())
+            Ok(ExitCode::SUCCESS)
         }
         Task::Unknown => {
             eprint!(rt; "{HELP}")?;
-            Err(anyhow!("the words are not known"))
+            Ok(ExitCode::FAILURE)
         }
     }
 }
 
-fn main(rt: HostRuntime) -> anyhow::Result<()> {
+fn main(rt: HostRuntime) -> anyhow::Result<ExitCode> {
     let words: Vec<String> = env::args(&rt)?.skip(1).collect(rt.alloc())?;
     run(&rt, asked(words.as_slice()))
 }
