@@ -1,7 +1,8 @@
 -- What the program writes for `check` and `list`.
-use Rattle.std.specs.Prelude.{ℕ, ◌+◌, List, [], ◌∷◌, ◌++◌, Some, None, Ok, Err, codes, decimal, Option}
+use Rattle.std.specs.Prelude.{ℕ, ◌+◌, List, [], ◌∷◌, ◌++◌, Ok, Err, codes, decimal, Option}
 use Rattle.script.specs.Judgement.{Verdict, judged}
 use Rattle.script.specs.Lines.{records_of, line_text}
+use Rattle.script.specs.Refusals.{refusal_words}
 use Rattle.script.specs.declared.line.Line.{Line}
 
 -- a number and the blank or the end of line after it
@@ -12,10 +13,9 @@ field n = decimal n ++ 32 ∷ []
 abbrev pub count_text : ℕ → List ℕ
 count_text n = decimal n ++ codes " lines\n"
 
--- `refused 2 line 7`, or `refused 4`
+-- a refusal in words and the end of line
 abbrev pub refusal_text : ℕ → Option ℕ → List ℕ
-refusal_text number None = codes "refused " ++ decimal number ++ 10 ∷ []
-refusal_text number (Some line) = codes "refused " ++ decimal number ++ codes " line " ++ decimal line ++ 10 ∷ []
+refusal_text number line = refusal_words number line ++ 10 ∷ []
 
 -- one line of a script: its number, offset, length and text
 abbrev pub row_text : ℕ → Line → List ℕ → List ℕ

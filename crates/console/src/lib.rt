@@ -3,8 +3,8 @@
 
 mod boards;
 mod messages;
+mod page;
 mod scripts;
-mod write;
 
 pub use crate::boards::orders;
 pub use crate::messages::{HELP, meaning};

@@ -1,12 +1,14 @@
 // `check` and `list`: a script judged, and its lines shown.
-ghost use Rattle.std.specs.Prelude.{◌≡◌, ◌++◌, IfOk, if◌then◌else◌, OnOk};
+ghost use Rattle.std.specs.Prelude.{◌≡◌, ◌++◌, IfOk, OnOk};
 ghost use Rattle.script.specs.Views.{bytes_of};
+ghost use Rattle.script.specs.Refusals.{told};
 ghost use Rattle.script.specs.Judgement.{judged};
 ghost use Rattle.script.specs.Lines.{records_of};
-ghost use Rattle.console.specs.Texts.{rows_from, check_text, list_text};
+ghost use Rattle.console.specs.Pages.{page_text, Adds};
+ghost use Rattle.console.specs.Texts.{row_text, rows_from, check_by, check_text, list_text};
 ghost use Rattle.console.specs.Answers.{Shows};
 
-use crate::write::{push_count, push_refusal, push_row};
+use crate::page::Page;
 use script::{Line, Refusal, Script};
 use std::alloc::{AllocError, Global};
 
@@ -17,56 +19,55 @@ pub struct Answer {
     pub refusal: Option<Refusal>,
 }
 
-fn push_rows(out: &mut Vec<u8>, script: &Script) -> Result<(), AllocError>
-    ensures { OnOk result (out.new.items ≡ out.old.items ++ rows_from (bytes_of script.now) 1 (records_of (bytes_of script.now))) }
+fn write_row(page: &mut Page, number: usize, line: Line, text: &[u8]) -> Result<(), AllocError>
+    ensures { OnOk result (Adds page.old page.new (row_text number line text.now)) }
+{
+    let Line { offset, length } = line;
+    write!(page, "{number} {offset} {length} ")?;
+    page.push(text)?;
+    page.push(b"\n")
+}
+
+fn write_rows(page: &mut Page, script: &Script) -> Result<(), AllocError>
+    ensures { OnOk result (Adds page.old page.new (rows_from (bytes_of script.now) 1 (records_of (bytes_of script.now)))) }
 {
     let bytes = script.bytes();
-    let lines = script.lines();
-    for i in 0..lines.len() {
-        push_row(out, i + 1, lines[i], lines[i].text(bytes))?;
+    for (i, line) in script.lines().iter().enumerate() {
+        write_row(page, i + 1, *line, line.text(bytes))?;
     }
     Ok(())
 }
 
-// The script judged, with its lines where they are asked for.
-fn judged_text(heap: Global, source: &[u8], listed: bool) -> Result<Answer, AllocError>
-    ensures { IfOk result (λ a. Shows a (judged source.now 1024) (if listed then list_text source.now else check_text source.now)) }
+// What was written, and then the number of lines or the refusal.
+fn finish(mut page: Page, judged: Result<usize, Refusal>) -> Result<Answer, AllocError>
+    ensures { IfOk result (λ a. Shows a (told judged) (page_text page ++ check_by (told judged))) }
 {
-    let mut directory = [Line {
-        offset: 0,
-        length: 0,
-    }; 1024];
-    let mut script = Script::new();
-    let mut text = Vec::new(heap);
-    match script.check(source, &mut directory) {
-        Ok(count) => {
-            if listed {
-                push_rows(&mut text, &script)?;
-            }
-            push_count(&mut text, count)?;
-            Ok(Answer {
-                text,
-                refusal: None,
-            })
-        }
-        Err(refusal) => {
-            push_refusal(&mut text, refusal)?;
-            Ok(Answer {
-                text,
-                refusal: Some(refusal),
-            })
-        }
+    match judged {
+        Ok(count) => writeln!(page, "{count} lines")?,
+        Err(refusal) => writeln!(page, "{refusal}")?,
     }
+    Ok(Answer {
+        text: page.into_bytes(),
+        refusal: judged.err(),
+    })
 }
 
 pub fn check(heap: Global, source: &[u8]) -> Result<Answer, AllocError>
     ensures { IfOk result (λ a. Shows a (judged source.now 1024) (check_text source.now)) }
 {
-    judged_text(heap, source, false)
+    let mut directory = [Line::default(); 1024];
+    finish(Page::new(heap), Script::new().check(source, &mut directory))
 }
 
 pub fn list(heap: Global, source: &[u8]) -> Result<Answer, AllocError>
     ensures { IfOk result (λ a. Shows a (judged source.now 1024) (list_text source.now)) }
 {
-    judged_text(heap, source, true)
+    let mut directory = [Line::default(); 1024];
+    let mut script = Script::new();
+    let mut page = Page::new(heap);
+    let judged = script.check(source, &mut directory);
+    if judged.is_ok() {
+        write_rows(&mut page, &script)?;
+    }
+    finish(page, judged)
 }

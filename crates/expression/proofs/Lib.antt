@@ -1,3 +1,3 @@
-pub mod Walks
+pub mod ItemLists
 pub mod Joins
-pub mod Places
+pub mod Walks

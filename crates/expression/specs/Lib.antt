@@ -1,2 +1,4 @@
 pub mod Calls
+pub mod Items
 pub mod Sums
+pub mod Tails

@@ -2,7 +2,10 @@
 #![tactic(auto)]
 
 mod calls;
+mod fault;
+mod items;
 mod right_side;
 mod sums;
+mod tail;
 
 pub use crate::right_side::evaluate;

@@ -1,138 +1,97 @@
 // Sums, judged term by term.
-ghost use Rattle.std.specs.Prelude.{◌≡◌, ◌+◌, ◌≤◌, [], drop, slice_index_or};
-ghost use Rattle.text.specs.Numbers.{number_of};
-ghost use Rattle.language.specs.Functions.{function_of, applied_by};
-ghost use Rattle.language.specs.Assignments.{items_of};
-ghost use Rattle.words.specs.Listed.{listed};
-ghost use Rattle.expression.specs.Sums.{numbered, term_of, is_of, sign_of, sign_before, moved, judged, added, first_of, walk};
+ghost use Rattle.std.specs.Prelude.{◌≡◌};
+ghost use Rattle.language.specs.Assignments.{yields};
+ghost use Rattle.expression.specs.Calls.{stated};
+ghost use Rattle.expression.specs.Items.{item_seen, items_in};
+ghost use Rattle.expression.specs.Sums.{term_of, sign_of, sign_in, moved, judged, added, walk};
 
-use crate::calls::{Outcome, call};
+use crate::calls::call;
+use crate::fault::CallFault;
+use crate::items::{Item, Items};
 use language::StatementFault;
-use text::{Text, number, same_bytes};
-use words::Words;
+use text::{Text, number};
 
-// What an item comes to as a term.
-#[derive(Clone, Copy)]
-enum Term {
-    Number(i32),
-    Wrong,
-    Unknown,
+#[derive(Clone, Copy, PartialEq, Eq, Debug)]
+enum Sign {
+    Plus,
+    Minus,
 }
 
-fn term_of(text: &[u8]) -> Term
-    ensures { result ≡ numbered (number_of text.now) }
-{
-    match number(text) {
-        Some(z) => Term::Number(z),
-        None => Term::Wrong,
-    }
-}
-
-// Whether a sign is a plus; none where the word is no sign.
-fn sign_of(word: &[u8]) -> Option<bool>
+fn sign_of(word: &[u8]) -> Option<Sign>
     ensures { result ≡ sign_of word.now }
 {
-    if same_bytes(word, b"+") {
-        Some(true)
-    } else if same_bytes(word, b"-") {
-        Some(false)
-    } else {
-        None
+    match word {
+        b"+" => Some(Sign::Plus),
+        b"-" => Some(Sign::Minus),
+        _ => None,
     }
 }
 
-fn judge(z: i64) -> Result<i32, StatementFault>
-    ensures { result ≡ judged z }
+// The sign that an item is; a function is none.
+fn sign_in(item: Item) -> Option<Sign>
+    ensures { result ≡ sign_in (item_seen item.entry) }
 {
-    match i32::try_from(z) {
-        Ok(z) => Ok(z),
-        Err(_) => Err(StatementFault::OutOfRange),
+    match item {
+        Item::Word(word) => sign_of(word.as_slice()),
+        Item::Call(_, _) => None,
     }
 }
 
-fn next(total: i32, plus: bool, z: i32) -> i64
-    ensures { result ≡ moved plus total z }
+fn moved(total: i32, sign: Sign, z: i32) -> Result<i32, StatementFault>
+    ensures { result ≡ judged (moved sign total z) }
 {
-    if plus {
-        total as i64 + z as i64
-    } else {
-        total as i64 - z as i64
-    }
+    let sum = match sign {
+        Sign::Plus => total.checked_add(z),
+        Sign::Minus => total.checked_sub(z),
+    };
+    sum.ok_or(StatementFault::OutOfRange)
+}
+
+fn term_of(item: Item, value: &mut Text) -> Result<i32, CallFault>
+    ensures { result ≡ term_of (yields (item_seen item.entry)) }
+{
+    let z = match item {
+        Item::Word(word) => number(word.as_slice()),
+        Item::Call(function, words) => {
+            call(function, words, value)?;
+            number(value.as_slice())
+        }
+    };
+    z.ok_or(CallFault::WrongWord)
 }
 
 // A sum with one more term. A term that is no number counts before every fault of the sum, and
 // an unknown function after it.
-fn add(total: Result<i32, StatementFault>, plus: bool, term: Term) -> Result<i32, StatementFault>
-    ensures { result ≡ added total plus term }
+fn add(
+    total: Result<i32, StatementFault>,
+    sign: Sign,
+    term: Result<i32, CallFault>,
+) -> Result<i32, StatementFault>
+    ensures { result ≡ added total sign term }
 {
     match term {
-        Term::Number(z) => match total {
-            Ok(t) => judge(next(t, plus, z)),
-            Err(fault) => Err(fault),
-        },
-        Term::Wrong => Err(StatementFault::WrongWord),
-        Term::Unknown => match total {
-            Ok(_) => Err(StatementFault::UnknownFunction),
-            Err(fault) => Err(fault),
-        },
+        Ok(z) => moved(total?, sign, z),
+        Err(CallFault::WrongWord) => Err(StatementFault::WrongWord),
+        Err(CallFault::UnknownFunction) => total.and(Err(StatementFault::UnknownFunction)),
     }
 }
 
-fn first(word: &[u8]) -> Result<i32, StatementFault>
-    ensures { result ≡ first_of (number_of word.now) }
+// The first term, with the fault of the statement.
+fn first(item: Item, value: &mut Text) -> Result<i32, StatementFault>
+    ensures { result ≡ stated (term_of (yields (item_seen item.entry))) }
 {
-    match number(word) {
-        Some(z) => Ok(z),
-        None => Err(StatementFault::WrongWord),
-    }
+    Ok(term_of(item, value)?)
 }
 
-// Whether a word is the one that follows a function.
-pub(crate) fn is_of(word: &[u8]) -> bool
-    ensures { result ≡ is_of word.now }
+// The sum that begins with an item. What is missing behind a sign is no number.
+pub(crate) fn sum(item: Item, mut items: Items, value: &mut Text) -> Result<i32, StatementFault>
+    ensures { result ≡ walk (stated (term_of (yields (item_seen item.entry)))) (items_in items.entry) }
 {
-    same_bytes(word, b"OF")
-}
-
-// What a word is as a sign, by the word that follows it: a function is none.
-fn sign_before(word: &[u8], next: &[u8]) -> Option<bool>
-    ensures { result ≡ sign_before word.now next.now }
-{
-    if is_of(next) {
-        return None;
-    }
-    sign_of(word)
-}
-
-fn called_term(words: &Words, at: usize, value: &mut Text) -> Term
-    requires { at ≤ 256 }
-    ensures { result ≡ term_of (applied_by (function_of (slice_index_or (listed words.now) at [])) (drop (at + 2) (listed words.now))) }
-{
-    match call(words, at, value) {
-        Outcome::Made => term_of(value.as_bytes()),
-        Outcome::Wrong => Term::Wrong,
-        Outcome::Unknown => Term::Unknown,
-    }
-}
-
-// The sum that begins with the word at a place. What is missing behind a sign is no number.
-pub(crate) fn sum(words: &Words, from: usize, value: &mut Text) -> Result<i32, StatementFault>
-    requires { from ≤ 256 }
-    ensures { result ≡ walk (first_of (number_of (slice_index_or (listed words.now) from []))) (items_of (drop (from + 1) (listed words.now))) }
-{
-    let n = words.len();
-    let mut total = first(words.get(from));
-    let mut i = from + 1;
-    while i < n {
-        let term = words.get(i + 1);
-        let Some(plus) = sign_before(words.get(i), term) else {
-            return Err(StatementFault::Malformed);
-        };
-        if is_of(words.get(i + 2)) {
-            return add(total, plus, called_term(words, i + 1, value));
-        }
-        total = add(total, plus, term_of(term));
-        i += 2;
+    let mut total = first(item, value);
+    while let Some(sign) = items.next() {
+        let sign = sign_in(sign).ok_or(StatementFault::Malformed)?;
+        let term = items.next().ok_or(StatementFault::WrongWord)?;
+        total = add(total, sign, term_of(term, value));
     }
     total
 }

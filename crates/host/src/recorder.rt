@@ -11,7 +11,8 @@ pub struct Issued {
     pub code: i32,
 }
 
-// Every pair goes to the host within. Once memory fails, no more is kept and `complete` is false.
+// Every pair goes to the host within. Once memory fails, no more is kept and `complete` is false;
+// what is kept by then stays to be read, so it is no Option.
 #[derive(Drop)]
 pub struct Recorder<H> {
     pub host: H,

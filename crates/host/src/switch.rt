@@ -5,7 +5,6 @@ ghost use Rattle.host.specs.Hosts.{name_of};
 
 use crate::host::Host;
 use crate::name::Name;
-use text::same_bytes;
 
 // Pairs for the name go to the first host with the environment emptied, all others to the second.
 #[derive(Clone, Copy)]
@@ -32,7 +31,7 @@ impl<A: Host, B: Host> Host for Switch<A, B> {
     ghost book = { λ s. switched (name_of s.name) (A.Host.book s.first) (B.Host.book s.second) };
 
     fn issue(&mut self, environment: &[u8], command: &[u8]) -> i32 {
-        if same_bytes(environment, self.name.as_bytes()) {
+        if environment == self.name.as_bytes() {
             self.first.issue(b"", command)
         } else {
             self.second.issue(environment, command)

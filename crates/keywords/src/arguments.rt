@@ -1,10 +1,14 @@
 // The number of an argument: digits without a leading zero, however many.
-ghost use Rattle.std.specs.Prelude.{◌≡◌};
+ghost use Rattle.std.specs.Prelude.{◌≡◌, drop};
 ghost use Rattle.keywords.specs.Arguments.{capped_index};
 ghost use Rattle.language.specs.Names.{index_of};
 ghost use Rattle.text.specs.Numbers.{digits_after};
 
-// The number that digits write; 0 for none.
+// Larger numbers are not told apart: no list of arguments has as many.
+const LARGEST: usize = 1000000;
+
+// The number that digits write; 0 for none. The reader of numeric words differs: to it, digits
+// beyond its range are no number.
 fn number(digits: &[u8]) -> Option<usize>
     ensures { result ≡ capped_index (digits_after 0 digits.now) }
 {
@@ -13,17 +17,17 @@ fn number(digits: &[u8]) -> Option<usize>
         if !b.is_ascii_digit() {
             return None;
         }
-        n = (n * 10 + (*b - b'0') as usize).min(1000000);
+        n = (n * 10 + usize::from(*b - b'0')).min(LARGEST);
     }
     Some(n)
 }
 
-pub(crate) fn index(digits: &[u8]) -> Option<usize>
-    ensures { result ≡ capped_index (index_of digits.now) }
+// The number of the argument that a name stands for; the ampersand goes first.
+pub(crate) fn index(name: &[u8]) -> Option<usize>
+    ensures { result ≡ capped_index (index_of (drop 1 name.now)) }
 {
-    match digits {
-        [] => None,
-        [b'0', ..] => None,
-        _ => number(digits),
+    match name.get(1..)? {
+        [] | [b'0', ..] => None,
+        digits => number(digits),
     }
 }

@@ -1,86 +1,61 @@
 // The control words, by the byte after the ampersand.
 ghost use Rattle.std.specs.Prelude.{◌≡◌};
-ghost use Rattle.keywords.specs.Tables.{under};
-ghost use Rattle.language.specs.Orders.{controls, control_of};
-ghost use Rattle.language.specs.Texts.{tabled};
+ghost use Rattle.language.specs.Orders.{control_of};
 ghost use Rattle.language.specs.Views.{control_seen};
 ghost use Rattle.std.specs.Option.{option_map};
 
-use crate::telling::{only, telling_byte};
+use crate::tables::{look_up, telling_byte};
 use language::{Control, Order};
-use text::same_bytes;
 
-// One function for each letter that several words have there; its contract has the letter's code.
-fn in_c(word: &[u8]) -> Option<Control>
-    ensures { option_map control_seen result ≡ tabled (under 67 controls) word.now }
-{
-    match word {
-        w if same_bytes(b"&CALL", w) => Some(Control::Obeys(Order::Call)),
-        w if same_bytes(b"&COMMAND", w) => Some(Control::Obeys(Order::Command)),
-        _ => None,
-    }
-}
+// One table for each byte, so that a word is compared only with those that share it.
+static IN_A: &[(&[u8], Control)] = &[(b"&ARGS", Control::Obeys(Order::Args))];
 
-fn in_p(word: &[u8]) -> Option<Control>
-    ensures { option_map control_seen result ≡ tabled (under 80 controls) word.now }
-{
-    match word {
-        w if same_bytes(b"&PRESUME", w) => Some(Control::Obeys(Order::Presume)),
-        w if same_bytes(b"&PRINT", w) => Some(Control::Obeys(Order::Print)),
-        _ => None,
-    }
-}
+static IN_C: &[(&[u8], Control)] = &[
+    (b"&CALL", Control::Obeys(Order::Call)),
+    (b"&COMMAND", Control::Obeys(Order::Command)),
+];
 
-fn in_r(word: &[u8]) -> Option<Control>
-    ensures { option_map control_seen result ≡ tabled (under 82 controls) word.now }
-{
-    match word {
-        w if same_bytes(b"&READ", w) => Some(Control::Read),
-        w if same_bytes(b"&RETURN", w) => Some(Control::Obeys(Order::Return)),
-        _ => None,
-    }
-}
+static IN_E: &[(&[u8], Control)] = &[(b"&EXIT", Control::Obeys(Order::Exit))];
 
-fn in_s(word: &[u8]) -> Option<Control>
-    ensures { option_map control_seen result ≡ tabled (under 83 controls) word.now }
-{
-    match word {
-        w if same_bytes(b"&SKIP", w) => Some(Control::Obeys(Order::Skip)),
-        w if same_bytes(b"&STACK", w) => Some(Control::Obeys(Order::Stack)),
-        w if same_bytes(b"&SUBCOMMAND", w) => Some(Control::Obeys(Order::Subcommand)),
-        _ => None,
-    }
-}
+static IN_G: &[(&[u8], Control)] = &[(b"&GOTO", Control::Obeys(Order::Goto))];
 
-fn in_t(word: &[u8]) -> Option<Control>
-    ensures { option_map control_seen result ≡ tabled (under 84 controls) word.now }
-{
-    match word {
-        w if same_bytes(b"&TRACE", w) => Some(Control::Obeys(Order::Trace)),
-        w if same_bytes(b"&TYPE", w) => Some(Control::Obeys(Order::Print)),
-        _ => None,
-    }
-}
+static IN_I: &[(&[u8], Control)] = &[(b"&IF", Control::If)];
 
-fn control(word: &[u8]) -> Option<Control>
-    ensures { option_map control_seen result ≡ tabled controls word.now }
-{
-    match telling_byte(word) {
-        b'A' => only(b"&ARGS", Control::Obeys(Order::Args), word),
-        b'C' => in_c(word),
-        b'E' => only(b"&EXIT", Control::Obeys(Order::Exit), word),
-        b'G' => only(b"&GOTO", Control::Obeys(Order::Goto), word),
-        b'I' => only(b"&IF", Control::If, word),
-        b'P' => in_p(word),
-        b'R' => in_r(word),
-        b'S' => in_s(word),
-        b'T' => in_t(word),
-        _ => None,
-    }
-}
+static IN_P: &[(&[u8], Control)] = &[
+    (b"&PRESUME", Control::Obeys(Order::Presume)),
+    (b"&PRINT", Control::Obeys(Order::Print)),
+];
 
+static IN_R: &[(&[u8], Control)] = &[
+    (b"&READ", Control::Read),
+    (b"&RETURN", Control::Obeys(Order::Return)),
+];
+
+static IN_S: &[(&[u8], Control)] = &[
+    (b"&SKIP", Control::Obeys(Order::Skip)),
+    (b"&STACK", Control::Obeys(Order::Stack)),
+    (b"&SUBCOMMAND", Control::Obeys(Order::Subcommand)),
+];
+
+static IN_T: &[(&[u8], Control)] = &[
+    (b"&TRACE", Control::Obeys(Order::Trace)),
+    (b"&TYPE", Control::Obeys(Order::Print)),
+];
+
+#[tactic(auto, unfolding(language::specs::Orders::control_of))]
 pub fn control_of(word: &[u8]) -> Option<Control>
     ensures { option_map control_seen result ≡ control_of word.now }
 {
-    control(word)
+    match telling_byte(word) {
+        b'A' => look_up(IN_A, word),
+        b'C' => look_up(IN_C, word),
+        b'E' => look_up(IN_E, word),
+        b'G' => look_up(IN_G, word),
+        b'I' => look_up(IN_I, word),
+        b'P' => look_up(IN_P, word),
+        b'R' => look_up(IN_R, word),
+        b'S' => look_up(IN_S, word),
+        b'T' => look_up(IN_T, word),
+        _ => None,
+    }
 }

@@ -1,179 +1,123 @@
 // What the names that the language knows stand for, by the byte after the ampersand.
 ghost use Rattle.std.specs.Prelude.{◌≡◌};
-ghost use Rattle.keywords.specs.Tables.{under};
 ghost use Rattle.language.specs.Names.{known_names};
 ghost use Rattle.language.specs.Texts.{tabled};
 ghost use Rattle.language.specs.Views.{kind_seen};
 ghost use Rattle.std.specs.Option.{option_map};
 
-use crate::telling::{only, telling_byte};
+use crate::tables::{look_up, telling_byte};
 use language::{KeptName, Kind};
-use text::same_bytes;
 
-// One function for each letter that several names have there; its contract has the letter's code.
-fn in_a(name: &[u8]) -> Option<Kind>
-    ensures { option_map kind_seen result ≡ tabled (under 65 known_names) name.now }
-{
-    match name {
-        n if same_bytes(b"&ARGSTRING", n) => Some(Kind::Kept(KeptName::ArgumentString)),
-        n if same_bytes(b"&ARGS", n) => Some(Kind::Own),
-        _ => None,
-    }
-}
+// One table for each byte, so that a name is compared only with those that share it.
+static ALONE: &[(&[u8], Kind)] = &[(b"&", Kind::Kept(KeptName::Ampersand))];
 
-fn in_b(name: &[u8]) -> Option<Kind>
-    ensures { option_map kind_seen result ≡ tabled (under 66 known_names) name.now }
-{
-    match name {
-        n if same_bytes(b"&BLANK", n) => Some(Kind::Kept(KeptName::Blank)),
-        n if same_bytes(b"&BEGPRINT", n) => Some(Kind::Own),
-        n if same_bytes(b"&BEGSTACK", n) => Some(Kind::Own),
-        n if same_bytes(b"&BEGTYPE", n) => Some(Kind::Own),
-        n if same_bytes(b"&BUFFER", n) => Some(Kind::Own),
-        _ => None,
-    }
-}
+static IN_0: &[(&[u8], Kind)] = &[(b"&0", Kind::Absent)];
 
-fn in_c(name: &[u8]) -> Option<Kind>
-    ensures { option_map kind_seen result ≡ tabled (under 67 known_names) name.now }
-{
-    match name {
-        n if same_bytes(b"&COLINE", n) => Some(Kind::Kept(KeptName::CommandLine)),
-        n if same_bytes(b"&CALL", n) => Some(Kind::Own),
-        n if same_bytes(b"&CASE", n) => Some(Kind::Own),
-        n if same_bytes(b"&COMMAND", n) => Some(Kind::Own),
-        n if same_bytes(b"&CONCAT", n) => Some(Kind::Own),
-        n if same_bytes(b"&CONCATENATION", n) => Some(Kind::Own),
-        _ => None,
-    }
-}
+static IN_A: &[(&[u8], Kind)] = &[
+    (b"&ARGSTRING", Kind::Kept(KeptName::ArgumentString)),
+    (b"&ARGS", Kind::Own),
+];
 
-fn in_d(name: &[u8]) -> Option<Kind>
-    ensures { option_map kind_seen result ≡ tabled (under 68 known_names) name.now }
-{
-    match name {
-        n if same_bytes(b"&DEPTH", n) => Some(Kind::Kept(KeptName::Depth)),
-        n if same_bytes(b"&DUMP", n) => Some(Kind::Own),
-        n if same_bytes(b"&DATE", n) => Some(Kind::Absent),
-        _ => None,
-    }
-}
+static IN_B: &[(&[u8], Kind)] = &[
+    (b"&BLANK", Kind::Kept(KeptName::Blank)),
+    (b"&BEGPRINT", Kind::Own),
+    (b"&BEGSTACK", Kind::Own),
+    (b"&BEGTYPE", Kind::Own),
+    (b"&BUFFER", Kind::Own),
+];
 
-fn in_e(name: &[u8]) -> Option<Kind>
-    ensures { option_map kind_seen result ≡ tabled (under 69 known_names) name.now }
-{
-    match name {
-        n if same_bytes(b"&ERROR", n) => Some(Kind::Own),
-        n if same_bytes(b"&EXIT", n) => Some(Kind::Own),
-        _ => None,
-    }
-}
+static IN_C: &[(&[u8], Kind)] = &[
+    (b"&COLINE", Kind::Kept(KeptName::CommandLine)),
+    (b"&CALL", Kind::Own),
+    (b"&CASE", Kind::Own),
+    (b"&COMMAND", Kind::Own),
+    (b"&CONCAT", Kind::Own),
+    (b"&CONCATENATION", Kind::Own),
+];
 
-fn in_f(name: &[u8]) -> Option<Kind>
-    ensures { option_map kind_seen result ≡ tabled (under 70 known_names) name.now }
-{
-    match name {
-        n if same_bytes(b"&FROM", n) => Some(Kind::Kept(KeptName::From)),
-        n if same_bytes(b"&FILEMODE", n) => Some(Kind::Absent),
-        n if same_bytes(b"&FILENAME", n) => Some(Kind::Absent),
-        n if same_bytes(b"&FILETYPE", n) => Some(Kind::Absent),
-        _ => None,
-    }
-}
+static IN_D: &[(&[u8], Kind)] = &[
+    (b"&DEPTH", Kind::Kept(KeptName::Depth)),
+    (b"&DUMP", Kind::Own),
+    (b"&DATE", Kind::Absent),
+];
 
-fn in_i(name: &[u8]) -> Option<Kind>
-    ensures { option_map kind_seen result ≡ tabled (under 73 known_names) name.now }
-{
-    match name {
-        n if same_bytes(b"&INDEX", n) => Some(Kind::Kept(KeptName::Count)),
-        n if same_bytes(b"&IF", n) => Some(Kind::Own),
-        _ => None,
-    }
-}
+static IN_E: &[(&[u8], Kind)] = &[(b"&ERROR", Kind::Own), (b"&EXIT", Kind::Own)];
 
-fn in_l(name: &[u8]) -> Option<Kind>
-    ensures { option_map kind_seen result ≡ tabled (under 76 known_names) name.now }
-{
-    match name {
-        n if same_bytes(b"&LINE", n) => Some(Kind::Kept(KeptName::Place)),
-        n if same_bytes(b"&LINENUM", n) => Some(Kind::Kept(KeptName::Place)),
-        n if same_bytes(b"&LINK", n) => Some(Kind::Kept(KeptName::Link)),
-        n if same_bytes(b"&LOOP", n) => Some(Kind::Own),
-        n if same_bytes(b"&LENGTH", n) => Some(Kind::Own),
-        _ => None,
-    }
-}
+static IN_F: &[(&[u8], Kind)] = &[
+    (b"&FROM", Kind::Kept(KeptName::From)),
+    (b"&FILEMODE", Kind::Absent),
+    (b"&FILENAME", Kind::Absent),
+    (b"&FILETYPE", Kind::Absent),
+];
 
-fn in_p(name: &[u8]) -> Option<Kind>
-    ensures { option_map kind_seen result ≡ tabled (under 80 known_names) name.now }
-{
-    match name {
-        n if same_bytes(b"&PRESUME", n) => Some(Kind::Own),
-        n if same_bytes(b"&PRINT", n) => Some(Kind::Own),
-        _ => None,
-    }
-}
+static IN_G: &[(&[u8], Kind)] = &[(b"&GOTO", Kind::Own)];
 
-fn in_r(name: &[u8]) -> Option<Kind>
-    ensures { option_map kind_seen result ≡ tabled (under 82 known_names) name.now }
-{
-    match name {
-        n if same_bytes(b"&RC", n) => Some(Kind::Kept(KeptName::Code)),
-        n if same_bytes(b"&RETCODE", n) => Some(Kind::Kept(KeptName::Code)),
-        n if same_bytes(b"&READ", n) => Some(Kind::Own),
-        n if same_bytes(b"&RETURN", n) => Some(Kind::Own),
-        _ => None,
-    }
-}
+static IN_I: &[(&[u8], Kind)] = &[
+    (b"&INDEX", Kind::Kept(KeptName::Count)),
+    (b"&IF", Kind::Own),
+];
 
-fn in_s(name: &[u8]) -> Option<Kind>
-    ensures { option_map kind_seen result ≡ tabled (under 83 known_names) name.now }
-{
-    match name {
-        n if same_bytes(b"&SKIP", n) => Some(Kind::Own),
-        n if same_bytes(b"&STACK", n) => Some(Kind::Own),
-        n if same_bytes(b"&SUBCOMMAND", n) => Some(Kind::Own),
-        _ => None,
-    }
-}
+static IN_L: &[(&[u8], Kind)] = &[
+    (b"&LINE", Kind::Kept(KeptName::Place)),
+    (b"&LINENUM", Kind::Kept(KeptName::Place)),
+    (b"&LINK", Kind::Kept(KeptName::Link)),
+    (b"&LOOP", Kind::Own),
+    (b"&LENGTH", Kind::Own),
+];
 
-fn in_t(name: &[u8]) -> Option<Kind>
-    ensures { option_map kind_seen result ≡ tabled (under 84 known_names) name.now }
-{
-    match name {
-        n if same_bytes(b"&TRACE", n) => Some(Kind::Own),
-        n if same_bytes(b"&TRUNC", n) => Some(Kind::Own),
-        n if same_bytes(b"&TYPE", n) => Some(Kind::Own),
-        n if same_bytes(b"&TRANS", n) => Some(Kind::Own),
-        n if same_bytes(b"&TRANSLATION", n) => Some(Kind::Own),
-        n if same_bytes(b"&TRIM", n) => Some(Kind::Own),
-        n if same_bytes(b"&TIME", n) => Some(Kind::Absent),
-        _ => None,
-    }
-}
+static IN_N: &[(&[u8], Kind)] = &[(b"&N", Kind::Kept(KeptName::Count))];
+
+static IN_P: &[(&[u8], Kind)] = &[(b"&PRESUME", Kind::Own), (b"&PRINT", Kind::Own)];
+
+static IN_R: &[(&[u8], Kind)] = &[
+    (b"&RC", Kind::Kept(KeptName::Code)),
+    (b"&RETCODE", Kind::Kept(KeptName::Code)),
+    (b"&READ", Kind::Own),
+    (b"&RETURN", Kind::Own),
+];
+
+static IN_S: &[(&[u8], Kind)] = &[
+    (b"&SKIP", Kind::Own),
+    (b"&STACK", Kind::Own),
+    (b"&SUBCOMMAND", Kind::Own),
+];
+
+static IN_T: &[(&[u8], Kind)] = &[
+    (b"&TRACE", Kind::Own),
+    (b"&TRUNC", Kind::Own),
+    (b"&TYPE", Kind::Own),
+    (b"&TRANS", Kind::Own),
+    (b"&TRANSLATION", Kind::Own),
+    (b"&TRIM", Kind::Own),
+    (b"&TIME", Kind::Absent),
+];
+
+static IN_U: &[(&[u8], Kind)] = &[(b"&UPPER", Kind::Own)];
+
+static IN_W: &[(&[u8], Kind)] = &[(b"&WORD", Kind::Own)];
 
 pub(crate) fn known(name: &[u8]) -> Option<Kind>
     ensures { option_map kind_seen result ≡ tabled known_names name.now }
 {
     match telling_byte(name) {
-        0 => only(b"&", Kind::Kept(KeptName::Ampersand), name),
-        b'0' => only(b"&0", Kind::Absent, name),
-        b'A' => in_a(name),
-        b'B' => in_b(name),
-        b'C' => in_c(name),
-        b'D' => in_d(name),
-        b'E' => in_e(name),
-        b'F' => in_f(name),
-        b'G' => only(b"&GOTO", Kind::Own, name),
-        b'I' => in_i(name),
-        b'L' => in_l(name),
-        b'N' => only(b"&N", Kind::Kept(KeptName::Count), name),
-        b'P' => in_p(name),
-        b'R' => in_r(name),
-        b'S' => in_s(name),
-        b'T' => in_t(name),
-        b'U' => only(b"&UPPER", Kind::Own, name),
-        b'W' => only(b"&WORD", Kind::Own, name),
+        0 => look_up(ALONE, name),
+        b'0' => look_up(IN_0, name),
+        b'A' => look_up(IN_A, name),
+        b'B' => look_up(IN_B, name),
+        b'C' => look_up(IN_C, name),
+        b'D' => look_up(IN_D, name),
+        b'E' => look_up(IN_E, name),
+        b'F' => look_up(IN_F, name),
+        b'G' => look_up(IN_G, name),
+        b'I' => look_up(IN_I, name),
+        b'L' => look_up(IN_L, name),
+        b'N' => look_up(IN_N, name),
+        b'P' => look_up(IN_P, name),
+        b'R' => look_up(IN_R, name),
+        b'S' => look_up(IN_S, name),
+        b'T' => look_up(IN_T, name),
+        b'U' => look_up(IN_U, name),
+        b'W' => look_up(IN_W, name),
         _ => None,
     }
 }

@@ -6,7 +6,7 @@ mod controls;
 mod functions;
 mod kinds;
 mod names;
-mod telling;
+mod tables;
 mod words;
 
 pub use crate::controls::control_of;

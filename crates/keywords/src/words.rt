@@ -1,38 +1,34 @@
 // The words of the smaller tables: functions, comparatives and what &READ fills.
 ghost use Rattle.std.specs.Prelude.{◌≡◌};
-ghost use Rattle.language.specs.Conditions.{comparatives, comparative_of};
-ghost use Rattle.language.specs.Functions.{functions, function_of};
-ghost use Rattle.language.specs.Reads.{manners, manner_of};
-ghost use Rattle.language.specs.Texts.{tabled};
+ghost use Rattle.language.specs.Conditions.{comparative_of};
+ghost use Rattle.language.specs.Functions.{function_of};
+ghost use Rattle.language.specs.Reads.{manner_of};
 ghost use Rattle.language.specs.Views.{function_seen, comparative_seen, manner_seen};
 ghost use Rattle.std.specs.Option.{option_map};
 
+use crate::tables::look_up;
 use language::{Comparative, Function, Manner};
-use text::same_bytes;
 
-fn function(word: &[u8]) -> Option<Function>
-    ensures { option_map function_seen result ≡ tabled functions word.now }
-{
-    match word {
-        w if same_bytes(b"&CONCAT", w) => Some(Function::Concat),
-        w if same_bytes(b"&CONCATENATION", w) => Some(Function::Concat),
-        w if same_bytes(b"&LENGTH", w) => Some(Function::Length),
-        w if same_bytes(b"&TRANS", w) => Some(Function::Trans),
-        w if same_bytes(b"&TRANSLATION", w) => Some(Function::Trans),
-        w if same_bytes(b"&TRIM", w) => Some(Function::Trim),
-        w if same_bytes(b"&WORD", w) => Some(Function::Word),
-        _ => None,
-    }
-}
+static FUNCTIONS: &[(&[u8], Function)] = &[
+    (b"&CONCAT", Function::Concat),
+    (b"&CONCATENATION", Function::Concat),
+    (b"&LENGTH", Function::Length),
+    (b"&TRANS", Function::Trans),
+    (b"&TRANSLATION", Function::Trans),
+    (b"&TRIM", Function::Trim),
+    (b"&WORD", Function::Word),
+];
 
 pub fn function_of(word: &[u8]) -> Option<Function>
     ensures { option_map function_seen result ≡ function_of word.now }
 {
-    function(word)
+    look_up(FUNCTIONS, word)
 }
 
-fn comparative(word: &[u8]) -> Option<Comparative>
-    ensures { option_map comparative_seen result ≡ tabled comparatives word.now }
+// This and the next are a match and no table, since several spellings stand for one value.
+#[tactic(auto, unfolding(language::specs::Conditions::comparative_of))]
+pub fn comparative_of(word: &[u8]) -> Option<Comparative>
+    ensures { option_map comparative_seen result ≡ comparative_of word.now }
 {
     match word {
         b"=" | b"EQ" => Some(Comparative::Equal),
@@ -45,14 +41,9 @@ fn comparative(word: &[u8]) -> Option<Comparative>
     }
 }
 
-pub fn comparative_of(word: &[u8]) -> Option<Comparative>
-    ensures { option_map comparative_seen result ≡ comparative_of word.now }
-{
-    comparative(word)
-}
-
-fn manner(word: &[u8]) -> Option<Manner>
-    ensures { option_map manner_seen result ≡ tabled manners word.now }
+#[tactic(auto, unfolding(language::specs::Reads::manner_of))]
+pub fn manner_of(word: &[u8]) -> Option<Manner>
+    ensures { option_map manner_seen result ≡ manner_of word.now }
 {
     match word {
         b"ARGS" => Some(Manner::Args),
@@ -60,10 +51,4 @@ fn manner(word: &[u8]) -> Option<Manner>
         b"VARS" | b"VAR" => Some(Manner::Vars),
         _ => None,
     }
-}
-
-pub fn manner_of(word: &[u8]) -> Option<Manner>
-    ensures { option_map manner_seen result ≡ manner_of word.now }
-{
-    manner(word)
 }

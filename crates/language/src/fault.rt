@@ -1,77 +1,58 @@
-// Why a statement stops, by the layer that raises it.
+// Why a statement stops, by the layer that raises it: each cause with its number.
+// Each layer has its own method: in a trait, every impl would want the same line.
 ghost use Rattle.std.specs.Prelude.{◌≡◌};
 ghost use Rattle.language.specs.Faults.{word_number, statement_number, store_number, cause_number};
 
 #[derive(Clone, Copy, PartialEq, Eq, Debug)]
 pub enum WordFault {
-    NameTooLong,
-    WordTooLong,
-    NotCarried,
+    NameTooLong = 10101,
+    WordTooLong = 10102,
+    NotCarried = 10103,
 }
 
 impl WordFault {
     pub fn number(&self) -> u16
         ensures { result ≡ word_number self.now }
     {
-        match self {
-            WordFault::NameTooLong => 10101,
-            WordFault::WordTooLong => 10102,
-            WordFault::NotCarried => 10103,
-        }
+        *self as u16
     }
 }
 
 #[derive(Clone, Copy, PartialEq, Eq, Debug)]
 pub enum StatementFault {
-    TooLong,
-    Malformed,
-    NoControlWord,
-    WrongWord,
-    NoSuchLabel,
-    OutOfRange,
-    UnknownFunction,
-    LineBelowOne,
-    TooManyCalls,
-    NoOpenCall,
+    TooLong = 10102,
+    Malformed = 10104,
+    NoControlWord = 10105,
+    WrongWord = 10106,
+    NoSuchLabel = 10107,
+    OutOfRange = 10109,
+    UnknownFunction = 10110,
+    LineBelowOne = 10113,
+    TooManyCalls = 10114,
+    NoOpenCall = 10115,
 }
 
 impl StatementFault {
     pub fn number(&self) -> u16
         ensures { result ≡ statement_number self.now }
     {
-        match self {
-            StatementFault::TooLong => 10102,
-            StatementFault::Malformed => 10104,
-            StatementFault::NoControlWord => 10105,
-            StatementFault::WrongWord => 10106,
-            StatementFault::NoSuchLabel => 10107,
-            StatementFault::OutOfRange => 10109,
-            StatementFault::UnknownFunction => 10110,
-            StatementFault::LineBelowOne => 10113,
-            StatementFault::TooManyCalls => 10114,
-            StatementFault::NoOpenCall => 10115,
-        }
+        *self as u16
     }
 }
 
 #[derive(Clone, Copy, PartialEq, Eq, Debug)]
 pub enum StoreFault {
-    ListTooLong,
-    CannotBeSet,
-    TooManyVariables,
-    TooManyLines,
+    ListTooLong = 10102,
+    CannotBeSet = 10108,
+    TooManyVariables = 10111,
+    TooManyLines = 10112,
 }
 
 impl StoreFault {
     pub fn number(&self) -> u16
         ensures { result ≡ store_number self.now }
     {
-        match self {
-            StoreFault::ListTooLong => 10102,
-            StoreFault::CannotBeSet => 10108,
-            StoreFault::TooManyVariables => 10111,
-            StoreFault::TooManyLines => 10112,
-        }
+        *self as u16
     }
 }
 

@@ -12,5 +12,5 @@ pub use crate::fault::{Cause, StatementFault, StoreFault, WordFault};
 pub use crate::keyword::{Comparative, Control, Function, Manner, Order};
 pub use crate::laws::{examples_stand, positions_stand, scenarios_compare};
 pub use crate::life::{Life, Stop};
-pub use crate::mark::{Mark, is_null, mark_of};
+pub use crate::mark::{Mark, mark_of};
 pub use crate::name::{KeptName, Kind};

@@ -1,7 +1,6 @@
 // What the first character of a word says of it.
 ghost use Rattle.std.specs.Prelude.{◌≡◌};
 ghost use Rattle.language.specs.Marks.{mark_of};
-ghost use Rattle.language.specs.Texts.{is_null};
 
 #[derive(Clone, Copy)]
 pub enum Mark {
@@ -25,14 +24,5 @@ pub fn mark_of(word: &[u8]) -> Mark
             '&' => Mark::Name,
             _ => Mark::Plain,
         },
-    }
-}
-
-pub fn is_null(text: &[u8]) -> bool
-    ensures { result ≡ is_null text.now }
-{
-    match text {
-        [] => true,
-        [_, ..] => false,
     }
 }

@@ -44,10 +44,8 @@ fn switches(rt: &HostRuntime) -> anyhow::Result<()> {
 fn names(rt: &HostRuntime) -> anyhow::Result<()> {
     for text in ["", "A", "12345678", "123456789", "A B", "!~", "A\u{7f}"] {
         let mut name = Name::new();
-        let answer = match name.set(text.as_bytes()) {
-            Ok(()) => 0,
-            Err(refusal) => refusal.number(),
-        };
+        let refusal = name.set(text.as_bytes()).err();
+        let answer = refusal.map_or(0, |refusal| refusal.number());
         let len = name.as_bytes().len();
         println!(rt; "name of {answer}: {len} bytes")?;
     }

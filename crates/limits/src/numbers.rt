@@ -23,11 +23,8 @@ fn read_long(rt: &HostRuntime, len: usize, last: u8) -> anyhow::Result<()> {
 
 fn write(rt: &HostRuntime, z: i32) -> anyhow::Result<()> {
     let text = Text::from_number(z);
-    let len = text.as_bytes().len();
-    let back = match number(text.as_bytes()) {
-        Some(back) => back == z,
-        None => false,
-    };
+    let len = text.as_slice().len();
+    let back = number(text.as_slice()) == Some(z);
     println!(rt; "written {z}: {len} bytes, read back: {back}")?;
     Ok(())
 }

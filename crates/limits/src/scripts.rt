@@ -5,20 +5,11 @@ use std::alloc::{AllocError, Global};
 use std::io::Write;
 
 fn outcome(rt: &HostRuntime, label: &str, source: &[u8], records: usize) -> anyhow::Result<()> {
-    let mut directory = vec![in rt.alloc(); Line {
-        offset: 0,
-        length: 0
-    }; records]?;
+    let mut directory = vec![in rt.alloc(); Line::default(); records]?;
     let mut script = Script::new();
     match script.check(source, directory.as_mut_slice()) {
         Ok(count) => println!(rt; "{label}: {count} lines")?,
-        Err(refusal) => {
-            let number = refusal.number();
-            match refusal.line() {
-                Some(line) => println!(rt; "{label}: refused {number} line {line}")?,
-                None => println!(rt; "{label}: refused {number}")?,
-            }
-        }
+        Err(refusal) => println!(rt; "{label}: {refusal}")?,
     }
     Ok(())
 }
@@ -60,10 +51,7 @@ fn fresh(rt: &HostRuntime) -> anyhow::Result<()> {
 
 // A refusal leaves the script that was there, and a later Check takes its place.
 fn refused(rt: &HostRuntime) -> anyhow::Result<()> {
-    let mut records = [Line {
-        offset: 0,
-        length: 0,
-    }; 8];
+    let mut records = [Line::default(); 8];
     let (first, second) = records.split_at_mut(4);
     let mut script = Script::new();
     let good = script.check(b"&TRACE\n&EXIT 5", first).is_ok();

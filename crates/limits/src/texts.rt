@@ -10,10 +10,10 @@ fn lengths(rt: &HostRuntime) -> anyhow::Result<()> {
         let bytes = vec![in rt.alloc(); b'x'; n]?;
         let mut text = Text::new();
         let set = fits(text.set(bytes.as_slice()).is_ok());
-        let held = text.as_bytes().len();
+        let held = text.as_slice().len();
         let pushed = fits(text.push(b'y').is_ok());
         let appended = fits(text.append(b"zz").is_ok());
-        let end = text.as_bytes().len();
+        let end = text.as_slice().len();
         println!(rt;
             "text of {n} bytes: {set}, holds {held}; one byte more: {pushed}; two more: {appended}; holds {end}"
         )?;
@@ -24,11 +24,9 @@ fn lengths(rt: &HostRuntime) -> anyhow::Result<()> {
 fn words(rt: &HostRuntime, line: &str) -> anyhow::Result<()> {
     let mut rest = line.as_bytes();
     let mut count = 0usize;
-    for _ in 0..line.len() {
-        let Some((word, after)) = next_word(rest) else {
-            break;
-        };
-        count = count.saturating_add(1);
+    // It shows the call that cuts words, so it follows what is left by hand.
+    while let Some((word, after)) = next_word(rest) {
+        count += 1;
         let len = word.len();
         println!(rt; "word {count} of [{line}] has {len} bytes")?;
         rest = after;

@@ -1,5 +1,3 @@
-pub mod Squares
-pub mod Reading
-pub mod Carried
 pub mod Naming
+pub mod Carried
 pub mod Orderly

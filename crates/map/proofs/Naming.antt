@@ -1,8 +1,8 @@
 -- The first piece found on a square is the piece that is told.
-use Rattle.std.proofs.Common.{◌≡◌, ℕ, suc, ◌+◌, ◌-◌, ◌<◌, ◌≤◌, true, false, ◌&&◌, List, [], ◌∷◌, length, get_or, take, ℤ, pos, nat_abs, Some, None, Option, sym, refl, ap, ◌∙◌, ⊎_elim, arith, length-take}
-use Rattle.std.proofs.lemmas.List.{get_or-map, get_or-take}
+use Rattle.std.proofs.Common.{◌≡◌, ℕ, suc, ◌+◌, ◌-◌, ◌<◌, ◌≤◌, true, false, ◌&&◌, List, [], ◌∷◌, length, get_or, ℤ, pos, nat_abs, Some, None, Option, sym, refl, ap, ◌∙◌, subst, ⊎_elim, arith}
+use Rattle.std.proofs.lemmas.List.{get_or-map, length-map}
 use Rattle.std.proofs.lemmas.Bool.{cases_Bool, cond-true}
-use Rattle.text.specs.Bytes.{short_held}
+use Rattle.text.specs.Tables.{held}
 use Rattle.text.specs.Search.{first_from}
 use Rattle.map.specs.Boards.{Stand, Board, is_on, on_board, piece_on, piece_at}
 use Rattle.map.specs.Pieces.{stand_of, board_of}
@@ -44,8 +44,11 @@ told_at side row column r c board o h p q e =
     ∙ ap (λ (z : ℤ). piece_on (nat_abs row) (nat_abs z) board) (sym q)
     ∙ sym (cond-true _ _ _ h)
 
-pub used_name : (pieces : List Piece) (count i : ℕ) (x : Piece) → count ≤ length pieces → i < count → short_held (get_or pieces i x).name ≡ (get_or (board_of (take count pieces)) i (stand_of x)).name
-used_name pieces count i x fits h =
-    let n : i < length (take count pieces) = simp length-take (omega arith) in
-    ap (λ (p : Piece). short_held p.name) (sym (get_or-take count pieces i x h))
-    ∙ sym (ap (λ (s : Stand). s.name) (get_or-map stand_of (take count pieces) i x (stand_of x) n))
+-- a piece at a place of the table is the one at that place of the board
+pub placed_name : (pieces : List Piece) (board : Board) (i : ℕ) (x : Piece) (name : List ℕ) → board_of pieces ≡ board → name ≡ held (get_or pieces i x).name → i < length board → name ≡ (get_or board i (stand_of x)).name
+placed_name pieces board i x name e n h =
+    let l : i < length (board_of pieces) = subst (λ (b : Board). i < length b) (sym e) h in
+    let k : i < length pieces = simp length-map at l in
+    n
+    ∙ sym (ap (λ (s : Stand). s.name) (get_or-map stand_of pieces i x (stand_of x) k))
+    ∙ ap (λ (b : Board). (get_or b i (stand_of x)).name) e

@@ -2,27 +2,21 @@
 ghost use Rattle.std.specs.Prelude.{◌≡◌};
 ghost use Rattle.map.specs.Codes.{code_number};
 
+// Each code with its number. Done is one of them and no Ok, since a host answers every code alike.
 #[derive(Clone, Copy, PartialEq, Eq, Debug)]
 pub enum Code {
-    Done,
-    SquareHeld,
-    WrongPiece,
-    OffTheMap,
-    TooManyPieces,
-    Malformed,
+    Done = 0,
+    SquareHeld = 4,
+    WrongPiece = 8,
+    OffTheMap = 12,
+    TooManyPieces = 16,
+    Malformed = 20,
 }
 
 impl Code {
     pub fn number(&self) -> i32
         ensures { result ≡ code_number self.now }
     {
-        match self {
-            Code::Done => 0,
-            Code::SquareHeld => 4,
-            Code::WrongPiece => 8,
-            Code::OffTheMap => 12,
-            Code::TooManyPieces => 16,
-            Code::Malformed => 20,
-        }
+        *self as i32
     }
 }

@@ -1,12 +1,11 @@
 // The map: pieces on squares, and the orders that move them.
 #![tactic(auto)]
 
-mod board;
 mod code;
 mod map;
 mod order;
 mod piece;
 
 pub use crate::code::Code;
-pub use crate::map::Map;
-pub use crate::piece::Piece;
+pub use crate::map::{Grid, Map};
+pub use crate::piece::{Piece, Square};

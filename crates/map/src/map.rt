@@ -1,14 +1,15 @@
-// The map of twelve rows and twelve columns.
-ghost use Rattle.std.specs.Prelude.{◌≤◌};
-
+// The map: a grid of squares with pieces on them.
 use crate::piece::Piece;
+use text::Table;
 
-pub(crate) mod methods;
+mod methods;
+mod orders;
 
-// At most 32 pieces; the first `count` places of the table are in use.
+// At most so many pieces on so many rows and columns.
 #[derive(Clone, Copy)]
-pub struct Map {
-    pieces: [Piece; 32],
-    count: usize,
-    ghost few: { count ≤ 32 },
+pub struct Grid<const SIDE: u8, const ROOM: usize> {
+    pieces: Table<Piece, ROOM>,
 }
+
+// The map of twelve rows and twelve columns.
+pub type Map = Grid<12, 32>;

@@ -1,11 +1,18 @@
 // A piece and its square, as the table holds it.
-use text::ShortText;
 
-pub(crate) mod methods;
+use text::Table;
+
+mod methods;
+
+// A row and a column.
+#[derive(Clone, Copy, PartialEq, Eq, Debug)]
+pub struct Square {
+    pub row: u8,
+    pub column: u8,
+}
 
 #[derive(Clone, Copy)]
 pub struct Piece {
-    pub name: ShortText,
-    pub row: u8,
-    pub column: u8,
+    pub name: Table<u8, 8>,
+    pub square: Square,
 }

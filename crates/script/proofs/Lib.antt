@@ -1,5 +1,5 @@
 pub mod Parts
 pub mod Cutting
-pub mod Records
+pub mod Sizes
 pub mod Soundness
 pub mod Texts

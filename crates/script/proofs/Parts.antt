@@ -1,15 +1,6 @@
 -- A part of a list whose bounds are cut to its length.
-use Rattle.std.proofs.Common.{◌≡◌, ℕ, ◌+◌, ◌-◌, ◌<◌, ◌≤◌, min, List, length, take, drop, sym, ap, ◌∙◌, ⊎_elim, arith, length-drop}
-use Rattle.std.proofs.lemmas.List.{drop_all}
-use Rattle.std.proofs.lemmas.Bool.{cases_lt}
-use Rattle.text.proofs.Rounds.{take_min}
-
-drop_min : {A : Type 0} (n : ℕ) (xs : List A) → drop (min n (length xs)) xs ≡ drop n xs
-drop_min n xs =
-    ⊎_elim
-    (λ (h : n < length xs). let e : min n (length xs) ≡ n = omega arith in ap (λ (m : ℕ). drop m xs) e)
-    (λ (h : length xs ≤ n). drop_all _ xs (omega arith) ∙ sym (drop_all n xs h))
-    (cases_lt n (length xs))
+use Rattle.std.proofs.Common.{◌≡◌, ℕ, ◌+◌, ◌-◌, min, List, length, take, drop, ap, ◌∙◌, arith, length-drop}
+use Rattle.std.proofs.lemmas.List.{drop_min, take_min}
 
 pub cut_part : {A : Type 0} (xs : List A) (offset n from to : ℕ) → from ≡ min offset (length xs) → to ≡ min (from + n) (length xs) → take (to - from) (drop from xs) ≡ take n (drop offset xs)
 cut_part {A} xs offset n from to e f =

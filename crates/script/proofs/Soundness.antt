@@ -1,24 +1,28 @@
 -- What the rules of a script come to.
 use Rattle.std.proofs.Common.{◌≡◌, ℕ, ◌+◌, ◌≤◌, Bool, true, false, cond, ◌||◌, ltb, List, [], ◌∷◌, ◌++◌, length, take, drop, Some, None, Ok, Err, Option, sym, refl, ap, ◌∙◌, arith}
+use Rattle.std.specs.Result.{is_ok}
 use Rattle.std.proofs.lemmas.List.{take_at}
-use Rattle.std.proofs.lemmas.Bool.{and_parts, and_from, or_parts, eqb-true, eq-eqb, ltb-false}
+use Rattle.std.proofs.lemmas.Bool.{and_parts, and_from, or_parts, or_from, eqb-true, eq-eqb, ltb-false}
 use Rattle.script.specs.Judgement.{Verdict, foreign, long, first_line, traced, unless_at, judged}
 use Rattle.script.specs.Lines.{lines_of, records_from, records_of}
-use Rattle.script.specs.Scripts.{accepts, same_records, sound}
+use Rattle.script.specs.Scripts.{same_records, sound}
 use Rattle.script.specs.declared.line.Line.{Line}
 
 -- a verdict that accepts has passed each test
 passed_at : (k : ℕ) (o : Option ℕ) (v : Verdict) (n : ℕ) → unless_at k o v ≡ Ok n → v ≡ Ok n
 passed_at k None v n h = h
-passed_at k (Some l) v n h = absurd (let z : ◌≡◌ {A = ℕ} 0 1 = cc in omega arith)
+passed_at k (Some l) v n h = cc
 
 passed : (b : Bool) (e : ℕ × Option ℕ) (v : Verdict) (n : ℕ) → cond b (Err e) v ≡ Ok n → (b ≡ false) × (v ≡ Ok n)
-passed true e v n h = absurd (let z : ◌≡◌ {A = ℕ} 0 1 = cc in omega arith)
+passed true e v n h = absurd (cc)
 passed false e v n h = (refl, h)
 
 counted : (b : Bool) (m : ℕ) (e : ℕ × Option ℕ) (n : ℕ) → cond b (Ok m) (Err e) ≡ Ok n → m ≡ n
 counted true m e n h = cc
-counted false m e n h = absurd (let z : ◌≡◌ {A = ℕ} 0 1 = cc in omega arith)
+counted false m e n h = cc
+
+lt_self : (n : ℕ) → ltb n n ≡ false
+lt_self n = grind arith
 
 module _ (bytes : List ℕ) (records n : ℕ) (ok : judged bytes records ≡ Ok n) where
   lines_passed : cond {A = Verdict} (ltb 1024 (length (lines_of bytes)) || ltb records (length (lines_of bytes))) (Err (4, None)) (cond {A = Verdict} (traced (lines_of bytes)) (Ok (length (lines_of bytes))) (Err (5, None))) ≡ Ok n
@@ -38,6 +42,15 @@ module _ (bytes : List ℕ) (records n : ℕ) (ok : judged bytes records ≡ Ok 
       let c = lines_counted in
       (omega arith, omega arith)
 
+  -- room for no more records than there are lines is enough
+  pub room_enough : judged bytes n ≡ Ok n
+  room_enough =
+      let l : ℕ = length (lines_of bytes) in
+      let b : (ltb 1024 l || ltb records l) ≡ false = (passed (ltb 1024 l || ltb records l) (4, None) _ n lines_passed).0 in
+      let c : (ltb 1024 l || ltb n l) ≡ false = or_from _ _ (or_parts _ _ b).0 (ap (λ (m : ℕ). ltb m l) (sym lines_counted) ∙ lt_self l) in
+      ap (λ (t : Bool). cond {A = Verdict} (ltb 65535 (length bytes)) (Err (1, None)) (unless_at 2 (first_line foreign (lines_of bytes)) (unless_at 3 (first_line long (lines_of bytes)) (cond {A = Verdict} t (Err (4, None)) (cond {A = Verdict} (traced (lines_of bytes)) (Ok l) (Err (5, None))))))) (c ∙ sym b)
+      ∙ ok
+
 pub length-records : (at : ℕ) (ls : List (List ℕ)) → length (records_from at ls) ≡ length ls
 length-records at [] = refl
 length-records at (l ∷ ls) = rw (length-records (at + length l + 1) ls)
@@ -45,8 +58,8 @@ length-records at (l ∷ ls) = rw (length-records (at + length l + 1) ls)
 -- the test of records is their equality
 same_records_lem : (xs ys : List Line) → same_records xs ys ≡ true → xs ≡ ys
 same_records_lem [] [] h = refl
-same_records_lem [] (y ∷ ys) h = absurd (let z : ◌≡◌ {A = ℕ} 0 1 = cc in omega arith)
-same_records_lem (x ∷ xs) [] h = absurd (let z : ◌≡◌ {A = ℕ} 0 1 = cc in omega arith)
+same_records_lem [] (y ∷ ys) h = cc
+same_records_lem (x ∷ xs) [] h = cc
 same_records_lem (x ∷ xs) (y ∷ ys) h =
     let p = and_parts _ _ h in
     let q = and_parts _ _ p.0 in
@@ -62,21 +75,26 @@ records_same [] = refl
 records_same (x ∷ xs) =
     and_from _ _ (and_from _ _ (eq-eqb x.offset _ refl) (eq-eqb x.length _ refl)) (records_same xs)
 
-accepted : (v : Verdict) (n : ℕ) → accepts v n ≡ true → v ≡ Ok n
-accepted (Ok m) n h = ap Ok (eqb-true m n h)
-accepted (Err e) n h = absurd (let z : ◌≡◌ {A = ℕ} 0 1 = cc in omega arith)
+accepted : (v : Verdict) → is_ok v ≡ true → (n : ℕ) × (v ≡ Ok n)
+accepted (Ok n) h = (n, refl)
+accepted (Err e) h = absurd (cc)
 
-module _ (bytes : List ℕ) (directory : List Line) (count : ℕ) (h : sound bytes directory count ≡ true) where
-  pub sound_verdict : judged bytes (length directory) ≡ Ok count
-  sound_verdict = accepted _ count (and_parts _ _ h).0
-
-  pub sound_records : take count directory ≡ records_of bytes
+module _ (bytes : List ℕ) (lines : List Line) (h : sound bytes lines ≡ true) where
+  pub sound_records : lines ≡ records_of bytes
   sound_records = same_records_lem _ _ (and_parts _ _ h).1
 
-pub sound_filled : (bytes : List ℕ) (before after : List Line) (n : ℕ) → Ok n ≡ judged bytes (length before) → length after ≡ length before → after ≡ records_of bytes ++ drop n before → sound bytes after n ≡ true
-sound_filled bytes before after n ok len e =
+  pub sound_few : length lines ≤ 1024
+  sound_few =
+      let v = accepted _ (and_parts _ _ h).0 in
+      let c = lines_counted bytes (length lines) v.0 v.1 in
+      let f = lines_fit bytes (length lines) v.0 v.1 in
+      let l = length-records 0 (lines_of bytes) in
+      let e = ap length sound_records in
+      omega arith
+
+-- the records that were written for a script are sound
+pub sound_filled : (bytes : List ℕ) (before after : List Line) (n : ℕ) → Ok n ≡ judged bytes (length before) → after ≡ records_of bytes ++ drop n before → sound bytes (take n after) ≡ true
+sound_filled bytes before after n ok e =
     let k : length (records_of bytes) ≡ n = length-records 0 (lines_of bytes) ∙ lines_counted bytes (length before) n (sym ok) in
-    let a : accepts (judged bytes (length after)) n ≡ true = rw (len, sym ok) (eq-eqb n n refl) in
     let r : take n after ≡ records_of bytes = ap (take n) e ∙ take_at (records_of bytes) (drop n before) n k in
-    let b : same_records (take n after) (records_of bytes) ≡ true = rw r (records_same (records_of bytes)) in
-    and_from _ _ a b
+    rw (r, k, room_enough bytes (length before) n (sym ok)) (records_same (records_of bytes))

@@ -1,7 +1,8 @@
 -- When a script is refused, and with what number.
-use Rattle.std.specs.Prelude.{ℕ, Bool, false, cond, not, ◌||◌, List, [], ◌∷◌, ◌++◌, length, drop, Some, None, Ok, Err, codes, Option, Result, nat_lt}
+use Rattle.std.specs.Prelude.{ℕ, ◌+◌, Bool, false, cond, not, ◌||◌, List, [], ◌∷◌, ◌++◌, length, drop, Some, None, Ok, Err, codes, Option, Result, nat_lt}
 use Rattle.text.specs.Bytes.{all_within}
-use Rattle.text.specs.Search.{first_from}
+use Rattle.std.specs.List.{position}
+use Rattle.std.specs.Option.{option_map}
 use Rattle.script.specs.Lines.{lines_of, records_of, first_word_is}
 use Rattle.script.specs.declared.line.Line.{Line}
 use Rattle.script.specs.declared.refusal.Refusal.{Refusal}
@@ -15,7 +16,7 @@ long l = nat_lt 255 (length l)
 
 -- the number of the first line that fails, counted from 1
 abbrev pub first_line : (List ℕ → Bool) → List (List ℕ) → Option ℕ
-first_line fails = first_from fails 1
+first_line fails lines = option_map (λ i. i + 1) (position fails lines)
 
 abbrev pub traced : List (List ℕ) → Bool
 traced [] = false

@@ -1,4 +1,5 @@
 pub mod Lines
+pub mod Rest
 pub mod Refusals
 pub mod Judgement
 pub mod Scripts

@@ -6,16 +6,13 @@ ghost use Rattle.script.specs.Judgement.{long, first_line, traced, judged, fille
 
 use crate::line::Line;
 use crate::line::methods::first_word_is;
-use crate::lines::{Foreign, Long, count_lines, first_line, next_line};
+use crate::lines::{Lines, first_foreign, first_long, next_line};
 use crate::refusal::Refusal;
 
 fn starts_with_trace(bytes: &[u8]) -> bool
     ensures { result ≡ traced (lines_of bytes.now) }
 {
-    match next_line(bytes) {
-        Some((line, _)) => first_word_is(line, b"&TRACE"),
-        None => false,
-    }
+    next_line(bytes).is_some_and(|(line, _)| first_word_is(line, b"&TRACE"))
 }
 
 // The number of lines, or the first refusal that is due, where the directory has so many records.
@@ -25,13 +22,13 @@ fn judge(bytes: &[u8], records: usize) -> Result<usize, Refusal>
     if bytes.len() > 65535 {
         return Err(Refusal::TooManyBytes);
     }
-    if let Some(line) = first_line(&Foreign, bytes) {
+    if let Some(line) = first_foreign(bytes) {
         return Err(Refusal::ByteNotAllowed { line });
     }
-    if let Some(line) = first_line(&Long, bytes) {
+    if let Some(line) = first_long(bytes) {
         return Err(Refusal::LineTooLong { line });
     }
-    let count = count_lines(bytes);
+    let count = Lines::new(bytes).count();
     if count > 1024 || count > records {
         return Err(Refusal::TooManyLines);
     }
@@ -42,22 +39,20 @@ fn judge(bytes: &[u8], records: usize) -> Result<usize, Refusal>
 }
 
 // Writes one record for each line, and leaves the records beyond as they were.
+#[tactic(auto, using(crate::proofs::Sizes::lines_sizes))]
 fn write_records(bytes: &[u8], directory: &mut [Line])
     requires small { length bytes.now ≤ 65535 }
     requires short { first_line long (lines_of bytes.now) ≡ None }
     requires room { length (lines_of bytes.now) ≤ length directory.old }
     ensures { directory.new ≡ records_of bytes.now ++ drop (length (lines_of bytes.now)) directory.old }
 {
-    let mut rest = bytes;
-    let mut count = 0;
-    while let Some((line, after)) = next_line(rest) {
-        let offset = (bytes.len() - rest.len()) as u16;
-        directory[count] = Line {
-            offset,
+    let mut offset = 0usize;
+    for (i, line) in Lines::new(bytes).enumerate() {
+        directory[i] = Line {
+            offset: offset as u16,
             length: line.len() as u8,
         };
-        count += 1;
-        rest = after;
+        offset += line.len() + 1;
     }
 }
 
@@ -66,11 +61,7 @@ pub(crate) fn fill(bytes: &[u8], directory: &mut [Line]) -> Result<usize, Refusa
     ensures answer { told result ≡ judged bytes.now (length directory.old) }
     ensures after { directory.new ≡ filled bytes.now directory.old result }
 {
-    match judge(bytes, directory.len()) {
-        Ok(count) => {
-            write_records(bytes, directory);
-            Ok(count)
-        }
-        Err(refusal) => Err(refusal),
-    }
+    let count = judge(bytes, directory.len())?;
+    write_records(bytes, directory);
+    Ok(count)
 }

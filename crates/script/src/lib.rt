@@ -8,6 +8,6 @@ mod refusal;
 mod script;
 
 pub use crate::line::Line;
-pub use crate::lines::next_line;
+pub use crate::lines::{Lines, next_line};
 pub use crate::refusal::Refusal;
 pub use crate::script::Script;

@@ -1,6 +1,9 @@
 // Why Check refuses a script.
-ghost use Rattle.std.specs.Prelude.{◌≡◌};
-ghost use Rattle.script.specs.Refusals.{refusal_number, refusal_line};
+ghost use Rattle.std.specs.Prelude.{◌≡◌, Some};
+ghost use Rattle.script.specs.Refusals.{refusal_number, refusal_line, refusal_words};
+
+use std::error::Error;
+use std::fmt;
 
 #[derive(Clone, Copy, PartialEq, Eq, Debug)]
 pub enum Refusal {
@@ -12,6 +15,7 @@ pub enum Refusal {
 }
 
 impl Refusal {
+    // By cases: a variant that holds a line can have no discriminant.
     pub fn number(&self) -> u8
         ensures { result ≡ refusal_number self.now }
     {
@@ -34,3 +38,17 @@ impl Refusal {
         }
     }
 }
+
+impl fmt::Display for Refusal {
+    ghost output = { λ e. Some (refusal_words (refusal_number e) (refusal_line e)) };
+
+    fn fmt<W: fmt::Write>(&self, f: &mut fmt::Formatter<W>) -> fmt::Result {
+        let number = self.number();
+        match self.line() {
+            Some(line) => write!(f, "refused {number} line {line}"),
+            None => write!(f, "refused {number}"),
+        }
+    }
+}
+
+impl Error for Refusal {}

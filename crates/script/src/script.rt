@@ -1,4 +1,4 @@
-// A checked script: bytes and directory together.
+// A checked script: its bytes, and the records of its lines.
 ghost use Rattle.std.specs.Prelude.{◌≡◌, true};
 ghost use Rattle.script.specs.Scripts.{sound};
 
@@ -10,7 +10,6 @@ mod methods;
 #[derive(Clone, Copy)]
 pub struct Script<'b, 'd> {
     bytes: &'b [u8],
-    directory: &'d [Line],
-    count: usize,
-    ghost checked: { sound bytes.now directory.now count ≡ true },
+    lines: &'d [Line],
+    ghost checked: { sound bytes.now lines.now ≡ true },
 }

@@ -1,4 +1,4 @@
-pub mod Conditions
 pub mod Turns
 pub mod Whether
 pub mod Decisions
+pub mod Conditions

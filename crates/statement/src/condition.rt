@@ -24,14 +24,14 @@ fn is_so(comparative: Comparative, order: Ordering) -> bool
 }
 
 // Whether the condition behind the first word is so; a second word that is missing is null.
+#[tactic(auto, using(crate::proofs::Conditions::placed))]
 pub(crate) fn condition_holds(words: &Words) -> Result<bool, StatementFault>
     ensures { result ≡ condition_holds (drop 1 (listed words.now)) }
 {
     if words.len() < 3 {
         return Err(StatementFault::Malformed);
     }
-    match comparative_of(words.get(2)) {
-        Some(comparative) => Ok(is_so(comparative, compare_words(words.get(1), words.get(3)))),
-        None => Err(StatementFault::Malformed),
-    }
+    let comparative = comparative_of(words.get(2).as_slice()).ok_or(StatementFault::Malformed)?;
+    let order = compare_words(words.get(1).as_slice(), words.get(3).as_slice());
+    Ok(is_so(comparative, order))
 }

@@ -1,45 +1,28 @@
 // What a statement is, past every &IF that leads to it.
-ghost use Rattle.std.specs.Prelude.{◌≡◌, [], Some};
+ghost use Rattle.std.specs.Prelude.{◌≡◌, List};
+ghost use Rattle.machine.specs.Machines.{Line};
+ghost use Rattle.language.specs.Statements.{statement};
 ghost use Rattle.store.specs.Stores.{core_seen};
-ghost use Rattle.substitution.specs.Gathering.{gathering};
-ghost use Rattle.substitution.specs.Writing.{written_seen, Few};
-ghost use Rattle.statement.specs.Leads.{Leads};
+ghost use Rattle.substitution.specs.Writing.{written_seen};
+ghost use Rattle.statement.specs.Leads.{result_means};
 
 use crate::clause::whether;
 use crate::lead::Lead;
 use crate::turn::{Turn, begin};
 use language::Stop;
-use store::Store;
-use substitution::{Gathered, Written};
+use substitution::{Reader, Written};
 
 // The statement that words make. An &IF whose clause holds leads to the statement behind it.
-pub fn find_lead<'a>(
-    store: &Store,
-    line: u64,
-    words: Written<'a>,
-    into: &mut Gathered,
-) -> Result<Lead<'a>, Stop>
-    requires few { Few words }
-    requires none { gathering into.old ≡ Some [] }
-    ensures { Leads line (core_seen store.now) (written_seen words.entry) (gathering into.new) result }
+pub fn find_lead<'a>(reader: Reader, mut words: Written<'a>) -> Result<Lead<'a>, Stop>
+    ensures { (st : List Line) → result_means reader.entry.line (core_seen reader.entry.store.now) st result ≡ statement reader.entry.line (core_seen reader.entry.store.now) st (written_seen words.entry) }
 {
-    let mut rest = words;
     loop {
-        let turn = match begin(store, line, rest, into) {
-            Ok(turn) => turn,
-            Err(stop) => return Err(stop),
-        };
-        let after = match turn {
-            Turn::Tests(after) => after,
+        match begin(reader, words)? {
             Turn::Leads(lead) => return Ok(lead),
-        };
-        let found = match whether(store, line, after) {
-            Ok(found) => found,
-            Err(stop) => return Err(stop),
-        };
-        let Some(behind) = found else {
+            Turn::Tests(after) => words = after,
+        }
+        if !whether(reader, &mut words)? {
             return Ok(Lead::Nothing);
-        };
-        rest = behind;
+        }
     }
 }

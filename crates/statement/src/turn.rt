@@ -1,20 +1,21 @@
 // One turn of finding out what a statement is.
-ghost use Rattle.std.specs.Prelude.{◌≡◌, true, false, ◌||◌, [], Some, MatchOption};
-ghost use Rattle.language.specs.Assignments.{is_assignment};
-ghost use Rattle.language.specs.Statements.{decided, statement};
-ghost use Rattle.language.specs.Texts.{has_asterisk, has_hyphen, has_ampersand};
+ghost use Rattle.std.specs.Prelude.{◌≡◌, ℕ, ◌<◌, cond, List, [], length, drop, Some, None, Ok, IfOk, option_map};
+ghost use Rattle.machine.specs.Machines.{Line};
+ghost use Rattle.language.specs.Assignments.{begins_equals};
+ghost use Rattle.language.specs.Cores.{Core};
+ghost use Rattle.language.specs.Orders.{control_of};
+ghost use Rattle.language.specs.Statements.{led, clause, decided, statement};
+ghost use Rattle.language.specs.Words.{Word};
 ghost use Rattle.store.specs.Stores.{core_seen};
-ghost use Rattle.substitution.specs.Gathering.{gathering};
-ghost use Rattle.substitution.specs.Writing.{word_seen, written_seen, Few};
-ghost use Rattle.statement.specs.Turning.{Turns, Right};
+ghost use Rattle.substitution.specs.Scratches.{scratch_held};
+ghost use Rattle.substitution.specs.Writing.{written_seen};
+ghost use Rattle.statement.specs.Turning.{turn_means, TestsFewer};
 
 use crate::lead::Lead;
 use crate::solid::first_solid;
 use keywords::control_of;
 use language::{Control, Mark, Stop, mark_of};
-use store::Store;
-use substitution::{Gathered, Scratch, Word, Written};
-use text::same_bytes;
+use substitution::{Reader, Scratch, Written};
 
 // What a turn finds: the statement, or an &IF with the words of its clause and its rest.
 #[derive(Clone, Copy)]
@@ -23,93 +24,59 @@ pub(crate) enum Turn<'a> {
     Tests(Written<'a>),
 }
 
-fn is_mark(word: &[u8]) -> bool
-    ensures { result ≡ (has_asterisk word.now || has_hyphen word.now) }
+// The words behind an = that comes first.
+fn behind_equals(mut words: Written<'_>) -> Option<Written<'_>>
+    ensures { option_map written_seen result ≡ cond (begins_equals (written_seen words.entry)) (Some (drop 1 (written_seen words.entry))) None }
 {
-    match mark_of(word) {
-        Mark::Comment | Mark::Label => true,
-        Mark::Name | Mark::Plain => false,
+    match words.next()?.bytes.as_slice() {
+        b"=" => Some(words),
+        _ => None,
     }
 }
 
-fn is_name(word: &[u8]) -> bool
-    ensures { result ≡ has_ampersand word.now }
+// What a first word decides that is not null, with the words behind it.
+fn turn_by(first: Scratch, after: Written<'_>) -> Turn<'_>
+    ensures means { (line : ℕ) (c : Core) (st : List Line) → turn_means line c st (Ok result) ≡ led line c st (scratch_held first) (control_of (scratch_held first)) (written_seen after.entry) (clause line c st [] (written_seen after.entry)) }
+    ensures fewer { (all : List Word) → length (written_seen after.entry) < length all → TestsFewer all result }
 {
-    match mark_of(word) {
-        Mark::Name => true,
-        Mark::Comment | Mark::Label | Mark::Plain => false,
-    }
-}
-
-// The words behind the = of an assignment; none where it is no assignment.
-fn right_side<'a>(target: Word, after: Written<'a>) -> Option<Written<'a>>
-    requires { Few after }
-    ensures { Right (word_seen target.entry) (written_seen after.entry) result }
-{
-    if !is_name(target.bytes) {
-        return None;
-    }
-    let Some((word, right)) = after.next() else {
-        return None;
+    let Some(control) = control_of(first.as_bytes()) else {
+        return Turn::Leads(Lead::Commands(first, after));
     };
-    if !same_bytes(word.bytes, b"=") {
-        return None;
+    match control {
+        Control::If => Turn::Tests(after),
+        Control::Read => Turn::Leads(Lead::Reads(after)),
+        Control::Obeys(order) => Turn::Leads(Lead::Obeys(order, first, after)),
     }
-    Some(right)
 }
 
 // What the first word that is not null decides.
-fn decide<'a>(
-    store: &Store,
-    line: u64,
-    words: Written<'a>,
-    into: &mut Gathered,
-) -> Result<Turn<'a>, Stop>
-    requires few { Few words }
-    requires none { gathering into.old ≡ Some [] }
-    ensures { Turns line (core_seen store.now) words.entry (λ st. decided line (core_seen store.now) st (written_seen words.entry)) (gathering into.new) result }
+#[tactic(auto, using(crate::proofs::Decisions::decided_by))]
+fn decide<'a>(reader: Reader, words: Written<'a>) -> Result<Turn<'a>, Stop>
+    ensures means { (st : List Line) → turn_means reader.entry.line (core_seen reader.entry.store.now) st result ≡ decided reader.entry.line (core_seen reader.entry.store.now) st (written_seen words.entry) }
+    ensures fewer { IfOk result (TestsFewer (written_seen words.entry)) }
 {
-    let mut text = Scratch::new();
-    let found = match first_solid(store, line, words, &mut text) {
-        Ok(found) => found,
-        Err(stop) => return Err(stop),
-    };
-    let Some(after) = found else {
-        return Ok(Turn::Leads(Lead::Nothing));
-    };
-    let Some(control) = control_of(text.as_bytes()) else {
-        into.take(text.as_bytes());
-        return Ok(Turn::Leads(Lead::Commands(after)));
-    };
-    match control {
-        Control::If => Ok(Turn::Tests(after)),
-        Control::Read => Ok(Turn::Leads(Lead::Reads(after))),
-        Control::Obeys(order) => {
-            into.take(text.as_bytes());
-            Ok(Turn::Leads(Lead::Obeys(order, after)))
-        }
+    let mut after = words;
+    match first_solid(reader, &mut after)? {
+        Some(first) => Ok(turn_by(first, after)),
+        None => Ok(Turn::Leads(Lead::Nothing)),
     }
 }
 
 // What a statement is, up to a first &IF.
-pub(crate) fn begin<'a>(
-    store: &Store,
-    line: u64,
-    words: Written<'a>,
-    into: &mut Gathered,
-) -> Result<Turn<'a>, Stop>
-    requires few { Few words }
-    requires none { gathering into.old ≡ Some [] }
-    ensures { Turns line (core_seen store.now) words.entry (λ st. statement line (core_seen store.now) st (written_seen words.entry)) (gathering into.new) result }
+pub(crate) fn begin<'a>(reader: Reader, words: Written<'a>) -> Result<Turn<'a>, Stop>
+    ensures means { (st : List Line) → turn_means reader.entry.line (core_seen reader.entry.store.now) st result ≡ statement reader.entry.line (core_seen reader.entry.store.now) st (written_seen words.entry) }
+    ensures fewer { IfOk result (TestsFewer (written_seen words.entry)) }
 {
-    let Some((first, after)) = words.next() else {
+    let mut after = words;
+    let Some(first) = after.next() else {
         return Ok(Turn::Leads(Lead::Nothing));
     };
-    if is_mark(first.bytes) {
-        return Ok(Turn::Leads(Lead::Misplaced(words)));
+    match mark_of(first.bytes.as_slice()) {
+        Mark::Comment | Mark::Label => Ok(Turn::Leads(Lead::Misplaced(words))),
+        Mark::Name => match behind_equals(after) {
+            Some(right) => Ok(Turn::Leads(Lead::Assigns(first, right))),
+            None => decide(reader, words),
+        },
+        Mark::Plain => decide(reader, words),
     }
-    if let Some(right) = right_side(first, after) {
-        return Ok(Turn::Leads(Lead::Assigns(first, right)));
-    }
-    decide(store, line, words, into)
 }

@@ -1,32 +1,14 @@
 -- A number beyond all arguments is as good as any other.
-use Rattle.std.proofs.Common.{◌≡◌, ℕ, ◌-◌, ◌<◌, ◌≤◌, min, true, leb, List, [], ◌∷◌, ◌++◌, length, get_or, Some, Ok, sym, refl, ap, ◌∙◌, ⊎_elim, arith, length-append}
+use Rattle.std.proofs.Common.{◌≡◌, ℕ, ◌-◌, ◌<◌, ◌≤◌, min, leb, List, [], length, get_or, Some, Ok, sym, refl, ap, ◌∙◌, ⊎_elim, arith}
 use Rattle.std.proofs.lemmas.List.{get_or_past, set_past}
-use Rattle.std.proofs.lemmas.Bool.{cases_lt, lt-leb, leb-true}
+use Rattle.std.proofs.lemmas.Bool.{cases_lt, lt-leb}
 use Rattle.keywords.specs.Arguments.{capped_kind}
 use Rattle.language.specs.Cores.{Core, with_arguments}
 use Rattle.language.specs.Faults.{◌>>◌, must}
 use Rattle.language.specs.Names.{Kind}
 use Rattle.language.specs.Store.{value_by, settable_by, put_by}
-use Rattle.language.specs.Texts.{Bytes, behind_blanks, spaced, fits}
+use Rattle.language.specs.Texts.{Bytes, fits}
 use Rattle.language.specs.declared.fault.StoreFault.TheVariants.{ListTooLong}
-use Rattle.words.specs.Listed.{listed}
-use Rattle.words.specs.declared.words.Words.{Words}
-use Rattle.words.proofs.Listings.{listed_fits}
-
-count_le : (ws : List Bytes) → length ws ≤ length (behind_blanks ws)
-count_le [] = omega arith
-count_le (w ∷ ws) = let h = count_le ws in simp length-append (omega arith)
-
--- a list of words that fits has at most 256
-fits_few : (ws : List Bytes) → fits ws ≡ true → length ws ≤ 256
-fits_few [] h = omega arith
-fits_few (w ∷ ws) h =
-    let k = leb-true (length (spaced (w ∷ ws))) 255 h in
-    let l : length (w ++ behind_blanks ws) ≤ 255 = k in
-    omega (arith, count_le ws, length-append w (behind_blanks ws))
-
-pub listed_few : (w : Words) → length (listed w) ≤ 256
-listed_few w = fits_few (listed w) (listed_fits w)
 
 module _ (c : Core) (few : length c.arguments ≤ 256) where
   pub value_capped : (n : Bytes) (k : Kind) → value_by c n (capped_kind k) ≡ value_by c n k

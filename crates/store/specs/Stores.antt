@@ -1,5 +1,5 @@
 -- The core that a store stands for.
-use Rattle.text.specs.Bytes.{held}
+use Rattle.text.specs.Tables.{held}
 use Rattle.script.specs.Views.{bytes_of}
 use Rattle.language.specs.Cores.{Core}
 use Rattle.words.specs.Listed.{listed}

@@ -1,6 +1,5 @@
 // The open calls, at most 8.
-ghost use Rattle.std.specs.Prelude.{◌≡◌, ◌≤◌, length};
-
+use text::Table;
 use words::Words;
 
 mod methods;
@@ -12,11 +11,8 @@ pub struct Call {
     pub arguments: Words,
 }
 
-// The first `count` records are in use, the innermost call last.
+// The innermost call stands last.
 #[derive(Clone, Copy)]
 pub struct Calls {
-    records: [Call; 8],
-    count: usize,
-    ghost whole: { length records ≡ 8 },
-    ghost few: { count ≤ 8 },
+    records: Table<Call, 8>,
 }

@@ -1,9 +1,10 @@
 // The value of a name, as it is kept.
+use text::Short;
 
 // What stands for the value: bytes that are kept somewhere, or what the value is written from.
 #[derive(Clone, Copy)]
 pub enum Value<'a> {
-    Bytes(&'a [u8]),
+    Bytes(Short<'a>),
     // The name itself.
     Own,
     Count(u64),

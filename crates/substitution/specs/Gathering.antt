@@ -1,14 +1,13 @@
 -- The words of a statement while they are gathered: none once they do not fit.
-use Rattle.std.specs.Prelude.{◌≡◌, ℕ, cond, List, [], ◌∷◌, ◌++◌, length, drop, is_ok, Some, None, Ok, MatchBool, Option, Result}
-use Rattle.language.specs.Cores.{Core}
-use Rattle.language.specs.Faults.{◌>>=◌, giving}
+use Rattle.std.specs.Prelude.{cond, List, [], ◌∷◌, ◌++◌, Some, None, Ok, Err, Option, Result, option_map}
+use Rattle.language.specs.Faults.{◌>>=◌}
 use Rattle.language.specs.Texts.{Bytes, is_null, fits}
-use Rattle.language.specs.Words.{substituted}
 use Rattle.words.specs.Listed.{listed}
+use Rattle.words.specs.declared.words.Words.{Words}
 use Rattle.substitution.specs.declared.gathered.Gathered.{Gathered}
 
 abbrev pub gathering : Gathered → Option (List Bytes)
-gathering g = cond g.full None (Some (listed g.words))
+gathering g = option_map listed g.words
 
 -- one word more
 abbrev pub grown : Option (List Bytes) → Bytes → Option (List Bytes)
@@ -29,10 +28,10 @@ taken_into o word = word >>= λ t. Ok (grown_by o t)
 abbrev pub words_into : {F : Type 0} → Option (List Bytes) → Result (List Bytes) F → Result (Option (List Bytes)) F
 words_into o words = words >>= λ ts. Ok (grown_all o ts)
 
--- a word that no replacement alters
-abbrev pub Unmarked : Bytes → Type 0
-Unmarked w = (c : Core) (left : ℕ) → substituted c left w ≡ Ok w
+abbrev pub listed_of : {F : Type 0} → Result Words F → Result (List Bytes) F
+listed_of (Ok w) = Ok (listed w)
+listed_of (Err f) = Err f
 
--- what a call that gathers words behind others answers, and the words then, against what is meant: a stop, or the words behind
-abbrev pub Behind : {F : Type 0} → List Bytes → Result (Unit {0}) F → List Bytes → Result (List Bytes) F → Type 0
-Behind front r ws meant = (giving r (drop (length front) ws) ≡ meant) × MatchBool (is_ok r) (ws ≡ front ++ drop (length front) ws) (Unit {0})
+-- what is meant, behind the words that were there
+abbrev pub behind : {F : Type 0} → List Bytes → Result (List Bytes) F → Result (List Bytes) F
+behind front meant = meant >>= λ ts. Ok (front ++ ts)

@@ -1,5 +1,6 @@
 -- The words of a line as they are written.
-use Rattle.std.specs.Prelude.{◌+◌, ◌≤◌, List, length}
+use Rattle.std.specs.Prelude.{List}
+use Rattle.text.specs.Shorts.{short_bytes}
 use Rattle.text.specs.Words.{words_of}
 use Rattle.language.specs.Words as words
 use Rattle.language.specs.Words.{numbered_from}
@@ -7,11 +8,7 @@ use Rattle.substitution.specs.declared.written.Word.{Word}
 use Rattle.substitution.specs.declared.written.Written.{Written}
 
 abbrev pub word_seen : Word → words.Word
-word_seen w = record { number = w.number; written = w.bytes.now }
+word_seen w = record { number = w.number; written = short_bytes w.bytes }
 
 abbrev pub written_seen : Written → List words.Word
 written_seen w = numbered_from w.number (words_of w.rest.now)
-
--- no line has more words than bytes
-abbrev pub Few : Written → Type 0
-Few w = (1 ≤ w.number) × (w.number + length w.rest.now ≤ 256)

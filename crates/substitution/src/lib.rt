@@ -2,13 +2,13 @@
 #![tactic(auto)]
 
 mod gathered;
+mod reader;
 mod replace;
 mod scratch;
 mod statement;
 mod written;
 
 pub use crate::gathered::Gathered;
-pub use crate::replace::{replace_target, replace_word};
+pub use crate::reader::Reader;
 pub use crate::scratch::Scratch;
-pub use crate::statement::gather;
 pub use crate::written::{Word, Written};

@@ -3,7 +3,7 @@ ghost use Rattle.std.specs.Prelude.{◌≡◌, ◌≤◌, length};
 
 mod methods;
 
-// The text is the last `len` bytes of the array.
+// The text is the last `len` bytes of an array: a text lies in fixed memory, and none is allocated.
 #[derive(Clone, Copy)]
 pub struct Scratch {
     bytes: [u8; 255],

@@ -1,65 +1,47 @@
 -- Records of the table of variables, and the variables that they stand for.
-use Rattle.std.proofs.Common.{◌≡◌, ℕ, ◌+◌, ◌-◌, ◌<◌, ◌≤◌, Bool, true, false, cond, List, [], map, length, get_or, take, set, Some, Ok, Err, sym, ap, ◌∙◌, arith, length-take}
+use Rattle.std.proofs.Common.{◌≡◌, ℕ, suc, Bool, true, false, cond, List, [], ◌∷◌, map, length, set, Some, Ok, Option, refl, sym, ap, ◌∙◌, arith}
+use Rattle.std.specs.Prelude.{◌==◌}
 use Rattle.std.specs.List.{remove}
-use Rattle.std.specs.Str.{bytes_eq}
-use Rattle.std.proofs.lemmas.Slice.Eq.{bytes_eq-Decides}
-use Rattle.std.proofs.lemmas.List.{length-map, get_or-map, get_or-take, map-set, map_push, take_more_set}
-use Rattle.std.proofs.lemmas.Bool.{lt-ltb, le-ltb}
-use Rattle.text.specs.Bytes.{held}
-use Rattle.text.proofs.Rounds.{first_within, first_passes}
-use Rattle.text.proofs.Tables.{take-set_any, map-removed}
+use Rattle.std.proofs.lemmas.Bool.{ne_eqb}
+use Rattle.std.proofs.lemmas.List.{map-set}
+use Rattle.text.specs.Search.{first_from}
+use Rattle.text.specs.Tables.{held}
+use Rattle.text.proofs.Rounds.{first_from-map}
+use Rattle.text.proofs.Tables.{map-removed}
 use Rattle.language.specs.Cores as cores
-use Rattle.language.specs.Store.{bears, variable, variable_at, value_at, assigned_at}
-use Rattle.tables.specs.Assigned.{added, assigned_to}
+use Rattle.language.specs.Store.{bears, variable, variable_at, assigned_at}
 use Rattle.language.specs.Texts.{Bytes, is_null}
-use Rattle.language.specs.declared.fault.StoreFault.TheVariants.{TooManyVariables}
-use Rattle.tables.specs.Tables.{variable_seen, in_use}
+use Rattle.tables.specs.Assigned.{assigned_to}
+use Rattle.tables.specs.Tables.{variable_seen, variables_seen}
 use Rattle.tables.specs.declared.variables.Variable.{Variable}
+use Rattle.tables.specs.declared.variables.Variables.{Variables}
 
-module _ (records : List Variable) (count : ℕ) where
-  -- a record in use, at whatever default it is read
-  seen_at : (i : ℕ) (x : Variable) (d : cores.Variable) → i < count → i < length (take count records) → get_or (in_use count records) i d ≡ variable_seen (get_or records i x)
-  seen_at i x d h n = get_or-map variable_seen (take count records) i x d n ∙ ap variable_seen (get_or-take count records i x h)
+null_by_length : (t : Bytes) → (length t == 0) ≡ is_null t
+null_by_length [] = refl
+null_by_length (b ∷ bs) = ne_eqb (suc (length bs)) 0 (omega arith)
 
-  module _ (name : Bytes) (i : ℕ) (x : Variable) (h : i < count) (e : Some i ≡ variable_at (in_use count records) name) where
-    within : i < length (take count records)
-    within = let w = first_within (bears name) (in_use count records) 0 i e in omega (arith, length-map (take count records) variable_seen)
+module _ (v : Variables) where
+  pub found : (name : Bytes) (records : List Variable) (r : Option ℕ) → records ≡ held v.records → r ≡ first_from (λ x. bears name (variable_seen x)) 0 records → r ≡ variable_at (variables_seen v) name
+  found name records r e q =
+      q ∙ first_from-map variable_seen (bears name) 0 records
+      ∙ ap (λ (vs : List Variable). variable_at (map variable_seen vs) name) e
 
-    pub found_value : held (get_or records i x).value ≡ value_at (in_use count records) (variable_at (in_use count records) name)
-    found_value =
-        ap (λ (v : cores.Variable). v.value) (sym (seen_at i x (variable [] []) h within))
-        ∙ ap (value_at (in_use count records)) e
+  -- a variable that is there, freed or changed
+  module _ (w : Variables) (n t b : Bytes) (i : ℕ) (e : Some i ≡ variable_at (variables_seen v) n) (q : b ≡ t) where
+    null : (a : Bool) → a ≡ (length b == 0) → is_null t ≡ a
+    null a h = sym (null_by_length t) ∙ ap (λ (s : Bytes). length s == 0) (sym q) ∙ sym h
 
-    found_name : held (get_or records i x).name ≡ name
-    found_name =
-        let z : i - 0 ≡ i = omega arith in
-        let p : bytes_eq (get_or (in_use count records) i (variable [] [])).name name ≡ true = rw z at (first_passes (bears name) (in_use count records) 0 i (variable [] []) e) in
-        ap (λ (v : cores.Variable). v.name) (sym (seen_at i x (variable [] []) h within)) ∙ (bytes_eq-Decides _ _).0 p
+    pub freed : true ≡ (length b == 0) → held w.records ≡ remove (held v.records) i → Ok (variables_seen w) ≡ assigned_to (variables_seen v) n t
+    freed h r =
+        ap (λ (vs : List Variable). Ok (map variable_seen vs)) r
+        ∙ ap (λ (vs : List cores.Variable). Ok vs) (map-removed variable_seen (held v.records) i)
+        ∙ ap (λ (a : Bool). Ok (cond a (remove (variables_seen v) i) (set (variables_seen v) i (variable n t)))) (sym (null true h))
+        ∙ ap (assigned_at (variables_seen v) n t) e
 
-    pub changed : (value : Bytes) (y : Variable) → false ≡ is_null value → variable_seen y ≡ variable (held (get_or records i x).name) value → Ok (in_use count (set records i y)) ≡ assigned_to (in_use count records) name value
-    changed value y q r =
-        ap (λ (vs : List Variable). Ok (map variable_seen vs)) (take-set_any count records i y)
-        ∙ ap (λ (vs : List cores.Variable). Ok vs) (map-set variable_seen (take count records) i y)
-        ∙ ap (λ (v : cores.Variable). Ok (set (in_use count records) i v)) (r ∙ ap (λ (n : Bytes). variable n value) found_name)
-        ∙ ap (λ (b : Bool). Ok (cond b (remove (in_use count records) i) (set (in_use count records) i (variable name value)))) q
-        ∙ ap (assigned_at (in_use count records) name value) e
-
-  pub freed : (name : Bytes) (i : ℕ) → Some i ≡ variable_at (in_use count records) name → (value : Bytes) (after : List Variable) → true ≡ is_null value → take (count - 1) after ≡ remove (take count records) i → Ok (in_use (count - 1) after) ≡ assigned_to (in_use count records) name value
-  freed name i e value after q r =
-      ap (λ (vs : List Variable). Ok (map variable_seen vs)) r
-      ∙ ap (λ (vs : List cores.Variable). Ok vs) (map-removed variable_seen (take count records) i)
-      ∙ ap (λ (b : Bool). Ok (cond b (remove (in_use count records) i) (set (in_use count records) i (variable name value)))) q
-      ∙ ap (assigned_at (in_use count records) name value) e
-
-  long : count ≤ length records → length (in_use count records) ≡ count
-  long h = simp (length-map, length-take) (omega arith)
-
-  pub no_place : (name value : Bytes) → length records ≡ 64 → count ≤ 64 → 64 ≤ count → Err TooManyVariables ≡ added (in_use count records) name value
-  no_place name value n f h = let l = long (omega arith) in rw (le-ltb (length (in_use count records)) 64 (omega arith))
-
-  pub one_more : (x : Variable) → length records ≡ 64 → count < 64 → Ok (in_use (count + 1) (set records count x)) ≡ added (in_use count records) (held x.name) (held x.value)
-  one_more x n h =
-      let l = long (omega arith) in
-      rw (lt-ltb (length (in_use count records)) 64 (omega arith))
-      (ap (λ (vs : List Variable). Ok (map variable_seen vs)) (take_more_set records count x (omega arith))
-      ∙ ap (λ (vs : List cores.Variable). Ok vs) (map_push variable_seen (take count records) x))
+    pub changed : (x : Variable) → false ≡ (length b == 0) → variable_seen x ≡ variable n t → held w.records ≡ set (held v.records) i x → Ok (variables_seen w) ≡ assigned_to (variables_seen v) n t
+    changed x h y r =
+        ap (λ (vs : List Variable). Ok (map variable_seen vs)) r
+        ∙ ap (λ (vs : List cores.Variable). Ok vs) (map-set variable_seen (held v.records) i x)
+        ∙ ap (λ (z : cores.Variable). Ok (set (variables_seen v) i z)) y
+        ∙ ap (λ (a : Bool). Ok (cond a (remove (variables_seen v) i) (set (variables_seen v) i (variable n t)))) (sym (null false h))
+        ∙ ap (assigned_at (variables_seen v) n t) e

@@ -1,6 +1,6 @@
 -- What the tables hold, as lists.
-use Rattle.std.specs.Prelude.{ℕ, ◌-◌, cond, List, ◌++◌, map, take, drop, Ok, Err, Result, nat_lt}
-use Rattle.text.specs.Bytes.{held}
+use Rattle.std.specs.Prelude.{ℕ, ◌-◌, cond, List, ◌++◌, map, take, drop, nat_lt}
+use Rattle.text.specs.Tables.{held}
 use Rattle.language.specs.Cores as cores
 use Rattle.language.specs.Texts.{Bytes}
 use Rattle.tables.specs.declared.lines.Lines.{Lines}
@@ -10,17 +10,8 @@ use Rattle.tables.specs.declared.variables.Variables.{Variables}
 abbrev pub variable_seen : Variable → cores.Variable
 variable_seen v = record { name = held v.name; value = held v.value }
 
--- the variables of the first records
-abbrev pub in_use : ℕ → List Variable → List cores.Variable
-in_use count records = map variable_seen (take count records)
-
 abbrev pub variables_seen : Variables → List cores.Variable
-variables_seen vs = in_use vs.count vs.records
-
--- the records that are left, as many as a call answers to be in use
-abbrev pub leaving : {F : Type 0} → List Variable → Result ℕ F → Result (List cores.Variable) F
-leaving records (Ok n) = Ok (in_use n records)
-leaving records (Err f) = Err f
+variables_seen vs = map variable_seen (held vs.records)
 
 -- a place of a round of n, from one that has gone round at most once
 abbrev pub wrapped : ℕ → ℕ → ℕ

@@ -5,7 +5,8 @@ use text::Text;
 
 mod methods;
 
-// The lines stand from the place `first` on, round past the end of the table.
+// A ring in fixed memory, so that the first is taken without moving the others: the lines stand
+// from the place `first` on, round past the end of the array.
 #[derive(Clone, Copy)]
 pub struct Lines {
     records: [Text; 32],

@@ -1,7 +1,5 @@
 // The ordinary variables that are not null, at most 64.
-ghost use Rattle.std.specs.Prelude.{◌≤◌};
-
-use text::Text;
+use text::{Table, Text};
 
 mod methods;
 
@@ -11,10 +9,8 @@ pub(crate) struct Variable {
     value: Text,
 }
 
-// The first `count` records are in use.
+// Fixed memory that is copied with the session, not a map: found by the one search.
 #[derive(Clone, Copy)]
 pub struct Variables {
-    records: [Variable; 64],
-    count: usize,
-    ghost few: { count ≤ 64 },
+    records: Table<Variable, 64>,
 }

@@ -1,10 +1,9 @@
 -- How a loop over digits comes to the number that they write.
-use Rattle.std.proofs.Common.{◌≡◌, ℕ, ◌+◌, ◌-◌, ◌*◌, ◌<◌, ◌≤◌, Bool, true, false, cond, List, [], ◌∷◌, length, get_or, take, drop, Some, None, sym, refl, ap, ◌∙◌, arith}
+use Rattle.std.proofs.Common.{◌≡◌, ℕ, ◌+◌, ◌-◌, ◌*◌, ◌<◌, ◌≤◌, Bool, true, false, cond, List, [], ◌∷◌, length, eqb, get_or, drop, Some, None, sym, refl, ap, ◌∙◌, arith}
 use Rattle.std.specs.Char.{is_ascii_digit}
 use Rattle.std.proofs.lemmas.List.{at_drop_more, at_drop_all}
-use Rattle.std.proofs.lemmas.Slice.{first_rest}
-use Rattle.std.proofs.lemmas.Bool.{lt-leb, le-leb, ne_eqb, true≢false}
-use Rattle.text.specs.Numbers.{sign, after_sign, digits_after, capped, magnitude_of}
+use Rattle.std.proofs.lemmas.Bool.{lt-leb, le-leb}
+use Rattle.text.specs.Numbers.{digits_after, capped, magnitude_of}
 
 -- a number that is too large stays so, whatever follows
 pub over : (n : ℕ) (bs : List ℕ) → 2147483648 < n → capped (digits_after n bs) ≡ None
@@ -27,9 +26,5 @@ module _ (bs : List ℕ) (i n : ℕ) where
   pub all_read : length bs ≤ i → n ≤ 2147483648 → capped (digits_after n (drop i bs)) ≡ Some n
   all_read h k = at_drop_all (λ (ys : List ℕ). capped (digits_after n ys)) bs i h ∙ rw (le-leb n 2147483648 k)
 
-pub some_digits : (bs : List ℕ) → (length bs ≡ 0 → ⊥) → capped (magnitude_of bs) ≡ capped (digits_after 0 bs)
-some_digits bs h = rw (ne_eqb _ _ h)
-
-pub past_sign : (w : List ℕ) → true ≡ sign (get_or w 0 0) → take (length w - 1) (drop 1 w) ≡ after_sign w
-past_sign [] e = absurd (true≢false e)
-past_sign (b ∷ bs) e = sym (ap after_sign (first_rest (b ∷ bs) 0 (omega arith)) ∙ rw (sym e))
+pub some_digits : (bs : List ℕ) → eqb (length bs) 0 ≡ false → capped (magnitude_of bs) ≡ capped (digits_after 0 bs)
+some_digits bs h = rw h

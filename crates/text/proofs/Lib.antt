@@ -1,6 +1,5 @@
 pub mod Splits
 pub mod Digits
 pub mod Padding
-pub mod Spelling
 pub mod Rounds
 pub mod Tables

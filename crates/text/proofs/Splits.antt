@@ -1,7 +1,6 @@
 -- The cursor cuts a line as its words are defined.
-use Rattle.std.proofs.Common.{◌≡◌, ℕ, ◌+◌, ◌-◌, ◌≤◌, true, false, List, [], ◌∷◌, ◌++◌, length, take, drop, Some, None, Option, sym, refl, ap, ◌∙◌, subst, ⊎_elim, append_assoc, append-nil, one-add, arith, length-drop, length-take}
+use Rattle.std.proofs.Common.{◌≡◌, ℕ, ◌+◌, ◌-◌, ◌≤◌, true, false, List, [], ◌∷◌, ◌++◌, length, take, drop, Option, sym, refl, ap, ◌∙◌, subst, ⊎_elim, append_assoc, append-nil, one-add, arith, length-drop, length-take}
 use Rattle.std.specs.List.{prefix_len}
-use Rattle.std.proofs.lemmas.List.{take_rest, nil_from_length}
 use Rattle.std.proofs.lemmas.Bool.{cases_Bool}
 use Rattle.std.proofs.lemmas.List.Sums.{prefix_len-le-length}
 use Rattle.text.specs.Words.{blank, solid, words_after, words_of, after_blanks, cut_word, next_word, Splits}
@@ -46,21 +45,6 @@ cut line (b ∷ bs) e =
 
 pub splits_of : (line : List ℕ) → Splits line (next_word line)
 splits_of line = cut line (after_blanks line) refl
-
--- what the code cuts off, as it comes to it
-module _ (line : List ℕ) (n : ℕ) (e : n ≡ prefix_len blank line) where
-  rest : take (length line - n) (drop n line) ≡ after_blanks line
-  rest = take_rest line n ∙ ap (λ (m : ℕ). drop m line) e
-
-  pub no_word : length (take (length line - n) (drop n line)) ≡ 0 → None ≡ next_word line
-  no_word h = sym (ap cut_word (sym rest ∙ nil_from_length _ h))
-
-  cut_some : (xs : List ℕ) → (length xs ≡ 0 → ⊥) → Some (take (prefix_len solid xs) xs, drop (prefix_len solid xs) xs) ≡ cut_word xs
-  cut_some [] h = absurd (h refl)
-  cut_some (b ∷ bs) h = refl
-
-  pub first_word : (m : ℕ) (w after : List ℕ) → (length (take (length line - n) (drop n line)) ≡ 0 → ⊥) → m ≡ prefix_len solid (take (length line - n) (drop n line)) → w ≡ take m (take (length line - n) (drop n line)) → after ≡ drop m (take (length line - n) (drop n line)) → Some (w, after) ≡ next_word line
-  first_word m w after h k p q = rw (p, q, k) (cut_some _ h ∙ ap cut_word rest)
 
 -- an answer that is the definition's splits the line
 pub splits_by : (line : List ℕ) (p : Option (List ℕ × List ℕ)) → p ≡ next_word line → Splits line p

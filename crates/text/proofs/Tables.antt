@@ -1,5 +1,5 @@
--- Tables whose first records are in use: a record taken out, a record changed.
-use Rattle.std.proofs.Common.{◌≡◌, ℕ, zero, suc, ◌-◌, ◌<◌, ◌≤◌, List, [], ◌∷◌, ◌++◌, map, length, take, drop, set, sym, refl, ap, ◌∙◌, append_assoc, add-one, arith, length-append, length-drop, length-take}
+-- Tables whose first records are in use: a record taken out.
+use Rattle.std.proofs.Common.{◌≡◌, ℕ, suc, ◌-◌, ◌<◌, ◌≤◌, List, ◌++◌, map, length, take, drop, sym, ap, ◌∙◌, append_assoc, add-one, arith, length-append, length-drop, length-take}
 use borrow.Rule.Slice.PartMut.{put_mid, post_of}
 use Rattle.std.specs.List.{remove}
 use Rattle.std.proofs.lemmas.List.{take_at, take-take, drop-drop, map-append, take-map, drop-map}
@@ -16,13 +16,6 @@ rotated {T} records count i part fits h e =
     ∙ take_at (take i records ++ drop 1 ys) (take 1 ys ++ post_of i (count - i) records) (count - 1) n
     ∙ ap (λ (zs : List T). zs ++ drop 1 ys) front
     ∙ ap (λ (zs : List T). take i (take count records) ++ zs) back
-
--- a write within or beyond a front
-pub take-set_any : {A : Type 0} (n : ℕ) (xs : List A) (i : ℕ) (x : A) → take n (set xs i x) ≡ set (take n xs) i x
-take-set_any zero xs i x = refl
-take-set_any (suc n) [] i x = refl
-take-set_any (suc n) (y ∷ ys) zero x = refl
-take-set_any (suc n) (y ∷ ys) (suc i) x = ap (λ (zs : List _). y ∷ zs) (take-set_any n ys i x)
 
 pub map-removed : {A B : Type 0} (f : A → B) (xs : List A) (i : ℕ) → map f (remove xs i) ≡ remove (map f xs) i
 map-removed f xs i =

@@ -1,17 +1,8 @@
--- The view of a text, and the bytes that a line may have.
-use Rattle.std.specs.Prelude.{ℕ, Bool, true, ◌&&◌, List, [], ◌∷◌, take}
+-- The bytes that a line may have.
+use Rattle.std.specs.Prelude.{ℕ, Bool, List}
 use Rattle.std.specs.Int.{is_in_range}
-use Rattle.text.specs.declared.short.ShortText.{ShortText}
-use Rattle.text.specs.declared.text.Text.{Text}
-
--- the bytes that a text holds
-abbrev pub held : Text → List ℕ
-held t = take t.len t.bytes
-
-abbrev pub short_held : ShortText → List ℕ
-short_held t = take t.len t.bytes
+use Rattle.std.specs.List.{list_all}
 
 -- whether every byte is from lo to hi
 abbrev pub all_within : ℕ → ℕ → List ℕ → Bool
-all_within lo hi [] = true
-all_within lo hi (b ∷ bs) = is_in_range lo hi b && all_within lo hi bs
+all_within lo hi bs = list_all (is_in_range lo hi) bs

@@ -1,4 +1,6 @@
 pub mod Bytes
+pub mod Tables
+pub mod Shorts
 pub mod Words
 pub mod Numbers
 pub mod Order

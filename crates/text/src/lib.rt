@@ -7,14 +7,12 @@ mod order;
 mod search;
 mod short;
 mod table;
-mod text;
 mod words;
 
-pub use crate::bytes::{all_within, same_bytes};
+pub use crate::bytes::all_within;
 pub use crate::numbers::number;
 pub use crate::order::{byte_or_blank, compare_words};
-pub use crate::search::{Named, find, find_used};
-pub use crate::short::ShortText;
-pub use crate::table::remove;
-pub use crate::text::{Full, Text};
+pub use crate::search::{Named, find, find_first};
+pub use crate::short::Short;
+pub use crate::table::{Full, Table, Text};
 pub use crate::words::{next_word, until};

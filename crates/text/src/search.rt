@@ -1,5 +1,5 @@
 // The one search: the first record of a table that bears a name.
-ghost use Rattle.std.specs.Prelude.{◌≡◌, ℕ, ◌<◌, ◌≤◌, Bool, List, length, take, drop, IfSome};
+ghost use Rattle.std.specs.Prelude.{◌≡◌, ℕ, ◌<◌, Bool, List, length, IfSome};
 ghost use Rattle.text.specs.Search.{first_from, first_round};
 
 // A record that can be asked whether it bears a name. The bytes that it may point into are lent
@@ -11,23 +11,12 @@ pub trait Named {
         ensures { result ≡ named self.now bytes.now name.now };
 }
 
-fn find_between<R: Named>(
-    records: &[R],
-    from: usize,
-    to: usize,
-    bytes: &[u8],
-    name: &[u8],
-) -> Option<usize>
-    requires { to ≤ length records.now }
-    ensures is { result ≡ first_from (λ x. R.Named.named x bytes.now name.now) from (drop from (take to records.now)) }
-    ensures within { IfSome result (λ i. i < to) }
+// The place of the first record that bears `name`.
+pub fn find_first<R: Named>(records: &[R], bytes: &[u8], name: &[u8]) -> Option<usize>
+    ensures is { result ≡ first_from (λ x. R.Named.named x bytes.now name.now) 0 records.now }
+    ensures within { IfSome result (λ i. i < length records.now) }
 {
-    for i in from..to {
-        if records[i].bears(bytes, name) {
-            return Some(i);
-        }
-    }
-    None
+    records.iter().position(|record| record.bears(bytes, name))
 }
 
 // The place of the first record that bears `name`, from the place `from` to the end and then
@@ -36,17 +25,9 @@ pub fn find<R: Named>(records: &[R], from: usize, bytes: &[u8], name: &[u8]) -> 
     ensures is { result ≡ first_round (λ x. R.Named.named x bytes.now name.now) from records.now }
     ensures within { IfSome result (λ i. i < length records.now) }
 {
-    match find_between(records, from, records.len(), bytes, name) {
-        Some(i) => Some(i),
-        None => find_between(records, 0, from.min(records.len()), bytes, name),
+    let (before, behind) = records.split_at(from.min(records.len()));
+    match find_first(behind, bytes, name) {
+        Some(i) => Some(before.len() + i),
+        None => find_first(before, bytes, name),
     }
-}
-
-// The place of the first that bears `name` of the records in use, the first `count`.
-pub fn find_used<R: Named>(records: &[R], count: usize, bytes: &[u8], name: &[u8]) -> Option<usize>
-    requires { count ≤ length records.now }
-    ensures is { result ≡ first_from (λ x. R.Named.named x bytes.now name.now) 0 (take count records.now) }
-    ensures within { IfSome result (λ i. i < count) }
-{
-    find_between(records, 0, count, bytes, name)
 }

@@ -1,11 +1,10 @@
-// A text of at most 8 bytes, for names in tables.
-ghost use Rattle.std.specs.Prelude.{◌≤◌};
+// A slice of at most 255 bytes: what a word, a name or a value may be.
+ghost use Rattle.std.specs.Prelude.{◌≤◌, length};
 
 mod methods;
 
 #[derive(Clone, Copy)]
-pub struct ShortText {
-    bytes: [u8; 8],
-    len: usize,
-    ghost fits: { len ≤ 8 },
+pub struct Short<'a> {
+    bytes: &'a [u8],
+    ghost short: { length bytes.now ≤ 255 },
 }

@@ -8,11 +8,7 @@ fn blanks(line: &[u8]) -> usize
     ensures is { result ≡ prefix_len blank line.now }
     ensures within { result ≤ length line.now }
 {
-    let mut n = 0;
-    while n < line.len() && line[n] == b' ' {
-        n += 1;
-    }
-    n
+    line.iter().take_while(|b| **b == b' ').count()
 }
 
 // How many bytes stand before the first `end`; all where there is none.
@@ -20,11 +16,7 @@ pub fn until(bytes: &[u8], end: u8) -> usize
     ensures is { result ≡ prefix_len (differs end) bytes.now }
     ensures within { result ≤ length bytes.now }
 {
-    let mut n = 0;
-    while n < bytes.len() && bytes[n] != end {
-        n += 1;
-    }
-    n
+    bytes.iter().take_while(|b| **b != end).count()
 }
 
 // The first word of `line`, and what follows it; `None` where the line is blank.
@@ -33,7 +25,7 @@ pub fn next_word(line: &[u8]) -> Option<(&[u8], &[u8])>
     ensures splits { Splits line.now (parts result) }
 {
     let line = &line[blanks(line)..];
-    if line.len() == 0 {
+    if line.is_empty() {
         return None;
     }
     Some(line.split_at(until(line, b' ')))

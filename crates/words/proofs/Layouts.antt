@@ -1,8 +1,10 @@
 -- What lies in memory and the list of words that it stands for, from one to the other.
-use Rattle.std.proofs.Common.{◌≡◌, ℕ, ◌+◌, ◌<◌, ◌≤◌, true, false, List, [], ◌∷◌, ◌++◌, map, length, get_or, take, drop, set, sym, refl, ap, ◌∙◌, append_assoc, append-nil, add-one, arith}
+use Rattle.std.proofs.Common.{◌≡◌, ℕ, zero, suc, ◌+◌, ◌<◌, ◌≤◌, true, false, List, [], ◌∷◌, ◌++◌, map, length, get_or, take, drop, set, sym, refl, ap, ◌∙◌, append_assoc, append-nil, add-one, arith}
+use Rattle.std.specs.List.{sum_by}
 use Rattle.std.specs.Str.{bytes_eq}
 use Rattle.std.proofs.lemmas.Slice.Eq.{bytes_eq-Decides}
-use Rattle.std.proofs.lemmas.List.{take_at, drop_at, take-append-drop, drop-drop, drop_more, length-append, length-drop, take_more, set_split}
+use Rattle.std.proofs.lemmas.List.{take_at, drop_at, take-append-drop, drop_more, length-append, length-drop, take_more, set_split}
+use Rattle.std.proofs.lemmas.List.Sums.{sum_by-cons}
 use Rattle.std.proofs.lemmas.Bool.{and_parts, and_from, le-leb, lt-leb}
 use Rattle.language.specs.Texts.{Bytes, behind_blanks, spaced, fits}
 use Rattle.words.specs.Layout.{cut_by, laid}
@@ -64,14 +66,6 @@ module _ (ws : List Bytes) (i : ℕ) where
       let r = length-append (get_or ws i []) [] in
       omega arith
 
-  pub behind_rest : (a : ℕ) → a ≡ length (behind_blanks (take i ws)) → drop (a + 1) (behind_blanks ws) ≡ spaced (drop i ws)
-  behind_rest a e = sym (drop-drop 1 a (behind_blanks ws)) ∙ ap (drop 1) (behind-drop a e) ∙ behind_first (drop i ws)
-
-  pub behind_word : (a n : ℕ) → i < length ws → a ≡ length (behind_blanks (take i ws)) → n ≡ length (get_or ws i []) → take n (drop (a + 1) (behind_blanks ws)) ≡ get_or ws i []
-  behind_word a n h e q =
-      ap (take n) (behind_rest a e ∙ ap spaced (drop_more ws i [] h))
-      ∙ take_at (get_or ws i []) (behind_blanks (drop (i + 1) ws)) n (sym q)
-
   -- up to the blank in front of a word
   pub behind_before : (a : ℕ) → i < length ws → a ≡ length (behind_blanks (take i ws)) → take (a + 1) (behind_blanks ws) ≡ behind_blanks (take i ws) ++ 32 ∷ []
   behind_before a h e =
@@ -90,3 +84,26 @@ fits_by ws h = le-leb _ _ (omega (arith, ap length (behind_first ws), length-dro
 
 pub full_by : (ws : List Bytes) → 256 < length (behind_blanks ws) → fits ws ≡ false
 full_by ws h = lt-leb _ _ (omega (arith, ap length (behind_first ws), length-drop 1 (behind_blanks ws)))
+
+-- each word takes its length and its blank
+pub size_is : (ws : List Bytes) → sum_by (λ n. n + 1) (map length ws) ≡ length (behind_blanks ws)
+size_is [] = refl
+size_is (w ∷ ws) =
+    sum_by-cons (λ n. n + 1) (length w) (map length ws)
+    ∙ omega (arith, size_is ws, length-append w (behind_blanks ws))
+
+-- each word takes a byte at the least
+pub behind_count : (ws : List Bytes) → length ws ≤ length (behind_blanks ws)
+behind_count [] = omega arith
+behind_count (w ∷ ws) = omega (arith, behind_count ws, length-append w (behind_blanks ws))
+
+-- a word, null past the end: its length, and where it lies
+pub length_at : (ws : List Bytes) (i : ℕ) → get_or (map length ws) i 0 ≡ length (get_or ws i [])
+length_at [] i = refl
+length_at (w ∷ ws) zero = refl
+length_at (w ∷ ws) (suc i) = length_at ws i
+
+pub word_first : (ws : List Bytes) (i : ℕ) → take (length (get_or ws i [])) (spaced (drop i ws)) ≡ get_or ws i []
+word_first [] i = refl
+word_first (w ∷ ws) zero = take_at w (behind_blanks ws) (length w) refl
+word_first (w ∷ ws) (suc i) = word_first ws i

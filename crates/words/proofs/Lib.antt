@@ -1,4 +1,3 @@
 pub mod Layouts
-pub mod Writes
 pub mod Listings
 pub mod Lines

@@ -1,129 +1,196 @@
 -- What the fields of a list of words hold, by its view.
-use Rattle.std.proofs.Common.{◌≡◌, ℕ, ◌+◌, ◌-◌, ◌<◌, ◌≤◌, true, List, [], ◌∷◌, ◌++◌, map, length, get_or, take, drop, set, sym, ap, ◌∙◌, append_assoc, arith}
-use borrow.Rule.Slice.PartMut.{put_mid}
-use lib.Seq.{paste, take-set-lt}
-use Rattle.std.specs.List.{between}
-use Rattle.std.proofs.lemmas.List.{length-append, length-take, length-take-le, length-map, get_or-take, get_or-map, take-take, take_more_set, drop-map, map-set, map_push}
-use Rattle.std.proofs.lemmas.Slice.{between_is}
+use Rattle.std.proofs.Common.{◌≡◌, ℕ, ◌+◌, ◌-◌, ◌<◌, ◌≤◌, Bool, true, false, cond, leb, List, [], ◌∷◌, ◌++◌, min, length, get_or, take, drop, set, sym, ap, ◌∙◌, append_assoc, arith, length-append, length-drop, length-take, length-take-le}
+use Rattle.std.specs.List.{sum_by}
+use Rattle.std.proofs.lemmas.Bool.{leb-true, leb-false, le-leb}
+use Rattle.std.proofs.lemmas.List.{length-map, take_all, take_min, take-map, drop_min, drop-map, map-set, map_push, set_past}
+use Rattle.text.specs.Tables.{held}
 use Rattle.language.specs.Texts.{Bytes, behind_blanks, spaced, fits}
+use Rattle.words.specs.Layout.{laid}
 use Rattle.words.specs.Listed.{listed}
 use Rattle.words.specs.declared.words.Words.{Words}
-use Rattle.words.proofs.Layouts.{Lies, cut_is, cut_lies, behind_le, behind_more, behind_word, behind_rest, behind-drop, behind_before, behind_split, behind-set, behind-push, fits_by}
-use Rattle.words.proofs.Writes.{inner, to_front, behind_end, put_between}
+use Rattle.words.proofs.Layouts.{Lies, cut_is, cut_lies, laid_is, behind_le, behind_more, behind-drop, behind_before, behind-set, behind-push, behind_count, length_at, word_first, size_is, fits_by, full_by}
 
-pub listed_lengths : (w : Words) → take w.count w.lengths ≡ map length (listed w)
-unfolding listed
-listed_lengths w = (cut_lies _ _ w.whole).0
-
-pub listed_bytes : (w : Words) → take w.used w.bytes ≡ behind_blanks (listed w)
-unfolding listed
-listed_bytes w = (cut_lies _ _ w.whole).1
-
-pub listed_is : (w : Words) (ws : List Bytes) → Lies (take w.count w.lengths) (take w.used w.bytes) ws → listed w ≡ ws
+pub listed_is : (w : Words) (ws : List Bytes) → Lies (held w.lengths) (held w.text) ws → listed w ≡ ws
 unfolding listed
 listed_is w ws lies = cut_is _ _ ws lies
 
--- no list of words is longer than a text may be
-pub listed_fits : (w : Words) → fits (listed w) ≡ true
-listed_fits w = fits_by (listed w) (omega (arith, ap length (listed_bytes w), length-take w.used w.bytes))
+-- no words
+pub new_laid : (ns : List ℕ) (t : Bytes) → ns ≡ [] → t ≡ [] → laid ns t ≡ true
+new_laid ns t e q = laid_is ns t [] (e, q)
 
-module _ (w : Words) (few : w.count ≤ length w.lengths) where
-  pub count_is : w.count ≡ length (listed w)
-  count_is = sym (length-take-le w.count w.lengths few) ∙ ap length (listed_lengths w) ∙ length-map (listed w) length
+pub listed_none : (w : Words) → held w.lengths ≡ [] → held w.text ≡ [] → listed w ≡ []
+listed_none w e q = listed_is w [] (e, q)
 
-  pub length_is : (i : ℕ) → i < w.count → get_or w.lengths i 0 ≡ length (get_or (listed w) i [])
-  length_is i h =
-      sym (get_or-take w.count w.lengths i 0 h)
-      ∙ ap (λ (ns : List ℕ). get_or ns i 0) (listed_lengths w)
-      ∙ get_or-map length (listed w) i [] 0 (omega (arith, count_is))
+module _ (w : Words) where
+  pub listed_lies : Lies (held w.lengths) (held w.text) (listed w)
+  unfolding listed
+  listed_lies = cut_lies _ _ w.whole
 
-  pub start_more : (i a : ℕ) → i < w.count → a ≡ length (behind_blanks (take i (listed w))) → a + (get_or w.lengths i 0 + 1) ≡ length (behind_blanks (take (i + 1) (listed w)))
-  start_more i a h e = omega (arith, behind_more (listed w) i (omega (arith, count_is)), length_is i h)
+  pub count_is : length (held w.lengths) ≡ length (listed w)
+  count_is = ap length listed_lies.0 ∙ length-map (listed w) length
 
-pub used_is : (w : Words) → w.used ≤ length w.bytes → w.used ≡ length (behind_blanks (listed w))
-used_is w room = sym (length-take-le w.used w.bytes room) ∙ ap length (listed_bytes w)
+  pub used_is : length (held w.text) ≡ length (behind_blanks (listed w))
+  used_is = ap length listed_lies.1
 
--- a word ends within the bytes in use
-pub start_within : (w : Words) (i a : ℕ) → w.count ≤ length w.lengths → w.used ≤ length w.bytes → i < w.count → a ≡ length (behind_blanks (take i (listed w))) → a + (get_or w.lengths i 0 + 1) ≤ w.used
-start_within w i a few room h e = omega (arith, start_more w few i a h e, behind_le (listed w) (i + 1), used_is w room)
+  used_few : length (held w.text) ≤ 256
+  used_few = let f = w.text.fits in simp length-take (omega arith)
 
--- the word at a place, where the blank in front of it lies at a
-module _ (w : Words) (few : w.count ≤ length w.lengths) (room : w.used ≤ length w.bytes) (i a : ℕ) (h : i < w.count) (e : a ≡ length (behind_blanks (take i (listed w)))) where
-  inside : i < length (listed w)
-  inside = omega (arith, count_is w few)
+  -- no list has more words than a text and one more has bytes
+  pub listed_few : length (listed w) ≤ 256
+  listed_few = omega (arith, behind_count (listed w), used_is, used_few)
 
-  pub get_is : between (a + 1) (a + 1 + get_or w.lengths i 0) w.bytes ≡ get_or (listed w) i []
-  get_is =
-      inner w.bytes (a + 1) (a + 1 + get_or w.lengths i 0) w.used (omega (arith, start_within w i a few room h e))
-      ∙ ap (between (a + 1) (a + 1 + get_or w.lengths i 0)) (listed_bytes w)
-      ∙ behind_word (listed w) i a _ inside e (omega (arith, length_is w few i h))
+  -- no list of words is longer than a text may be
+  pub listed_fits : fits (listed w) ≡ true
+  listed_fits = fits_by (listed w) (omega (arith, used_is, used_few))
 
-  pub joined_is : between (a + 1) w.used w.bytes ≡ spaced (drop i (listed w))
-  joined_is = between_is w.bytes (a + 1) w.used ∙ ap (drop (a + 1)) (listed_bytes w) ∙ behind_rest (listed w) i a e
+  -- where a word lies
+  pub start_is : (i k : ℕ) (ns : List ℕ) → k ≡ min i (length ns) → ns ≡ held w.lengths → sum_by (λ n. n + 1) (take k ns) ≡ length (behind_blanks (take i (listed w)))
+  start_is i k ns m e =
+      ap (sum_by (λ n. n + 1)) (ap (λ (j : ℕ). take j ns) m ∙ take_min i ns ∙ ap (take i) (e ∙ listed_lies.0) ∙ take-map length i (listed w))
+      ∙ size_is (take i (listed w))
 
-  pub tail_lies : (bytes lengths : List ℕ) → bytes ≡ paste w.bytes 0 (drop a w.bytes) (w.used - a) → lengths ≡ paste w.lengths 0 (drop i w.lengths) (w.count - i) → Lies (take (w.count - i) lengths) (take (w.used - a) bytes) (drop i (listed w))
-  tail_lies bytes lengths p q = (
-    ap (take (w.count - i)) q ∙ to_front w.lengths i w.count few ∙ ap (drop i) (listed_lengths w) ∙ drop-map length i (listed w),
-    ap (take (w.used - a)) p ∙ to_front w.bytes a w.used room ∙ ap (drop a) (listed_bytes w) ∙ behind-drop (listed w) i a e,
+  pub start_within : (i k : ℕ) (ns : List ℕ) → k ≡ min i (length ns) → ns ≡ held w.lengths → sum_by (λ n. n + 1) (take k ns) ≤ length (held w.text)
+  start_within i k ns m e = omega (arith, start_is i k ns m e, behind_le (listed w) i, used_is)
+
+  pub behind_is : (i a : ℕ) (t : Bytes) → a ≡ length (behind_blanks (take i (listed w))) → t ≡ held w.text → take (length t - a) (drop a t) ≡ behind_blanks (drop i (listed w))
+  behind_is i a t e q =
+      take_all _ _ (simp length-drop (omega arith))
+      ∙ ap (drop a) (q ∙ listed_lies.1)
+      ∙ behind-drop (listed w) i a e
+
+  length_is : (i n : ℕ) (ns : List ℕ) → n ≡ get_or ns i 0 → ns ≡ held w.lengths → n ≡ length (get_or (listed w) i [])
+  length_is i n ns h e = h ∙ ap (λ (ms : List ℕ). get_or ms i 0) (e ∙ listed_lies.0) ∙ length_at (listed w) i
+
+  -- a word starts what is joined from it on
+  pub get_is : (i n : ℕ) (ns joined : List ℕ) → n ≡ get_or ns i 0 → ns ≡ held w.lengths → joined ≡ spaced (drop i (listed w)) → take n joined ≡ get_or (listed w) i []
+  get_is i n ns joined h e q = rw (q, length_is i n ns h e) (word_first (listed w) i)
+
+  pub get_within : (i n : ℕ) (ns joined : List ℕ) → n ≡ get_or ns i 0 → ns ≡ held w.lengths → joined ≡ spaced (drop i (listed w)) → n ≡ length (take n joined)
+  get_within i n ns joined h e q = length_is i n ns h e ∙ sym (ap length (get_is i n ns joined h e q))
+
+  pub start_few : (i k : ℕ) (ns : List ℕ) → k ≡ min i (length ns) → ns ≡ held w.lengths → sum_by (λ n. n + 1) (take k ns) ≤ 256
+  start_few i k ns m e = omega (arith, start_within i k ns m e, used_few)
+
+  pub tail_lies : (i k : ℕ) (ns ms : List ℕ) (text : Bytes) → ns ≡ held w.lengths → k ≡ min i (length ns) → ms ≡ take (length ns - k) (drop k ns) → text ≡ behind_blanks (drop i (listed w)) → Lies ms text (drop i (listed w))
+  tail_lies i k ns ms text e m q t = (
+    q ∙ take_all (length ns - k) (drop k ns) (simp length-drop (omega arith))
+        ∙ ap (λ (j : ℕ). drop j ns) m
+        ∙ drop_min i ns
+        ∙ ap (drop i) (e ∙ listed_lies.0)
+        ∙ drop-map length i (listed w),
+    t,
   )
 
+  pub tail_laid : (i k : ℕ) (ns ms : List ℕ) (text : Bytes) → ns ≡ held w.lengths → k ≡ min i (length ns) → ms ≡ take (length ns - k) (drop k ns) → text ≡ behind_blanks (drop i (listed w)) → laid ms text ≡ true
+  tail_laid i k ns ms text e m q t = laid_is _ _ _ (tail_lies i k ns ms text e m q t)
+
+  pub listed_tail : (v : Words) (i k : ℕ) (ns : List ℕ) → ns ≡ held w.lengths → k ≡ min i (length ns) → held v.lengths ≡ take (length ns - k) (drop k ns) → held v.text ≡ behind_blanks (drop i (listed w)) → listed v ≡ drop i (listed w)
+  listed_tail v i k ns e m q t = listed_is v _ (tail_lies i k ns (held v.lengths) (held v.text) e m q t)
+
   module _ (word : Bytes) where
-    set_lengths : take w.count (set w.lengths i (length word)) ≡ map length (set (listed w) i word)
-    set_lengths =
-        take-set-lt w.count w.lengths i (length word) h
-        ∙ ap (λ (ns : List ℕ). set ns i (length word)) (listed_lengths w)
-        ∙ sym (map-set length (listed w) i word)
+    push_size : length (behind_blanks (listed w ++ word ∷ [])) ≡ length (held w.text) + 1 + length word
+    push_size = omega (arith, ap length (behind-push (listed w) word), length-append (behind_blanks (listed w)) (32 ∷ word), used_is)
 
-    pub set_size : length (behind_blanks (set (listed w) i word)) + get_or w.lengths i 0 ≡ w.used + length word
+    -- no room for the blank, and none for the word behind it
+    pub push_full : (ok : Bool) → ok ≡ false → false ≡ leb (length (held w.text) + 1) 256 → ok ≡ fits (listed w ++ word ∷ [])
+    push_full ok e h = let m = leb-false _ 256 (sym h) in e ∙ sym (full_by _ (omega (arith, push_size)))
+
+    module _ (front : Bytes) (e : front ≡ held w.text ++ 32 ∷ []) where
+      front_size : length front ≡ length (held w.text) + 1
+      front_size = ap length e ∙ length-append (held w.text) (32 ∷ [])
+
+      pub push_over : (ok : Bool) → ok ≡ false → false ≡ leb (length front + length word) 256 → ok ≡ fits (listed w ++ word ∷ [])
+      push_over ok d h = let m = leb-false _ 256 (sym h) in d ∙ sym (full_by _ (omega (arith, push_size, front_size)))
+
+      pub push_fits : true ≡ leb (length front + length word) 256 → true ≡ fits (listed w ++ word ∷ [])
+      push_fits h = let m = leb-true _ 256 (sym h) in sym (fits_by _ (omega (arith, push_size, front_size)))
+
+      -- the count takes no more than the bytes
+      push_lies : (text ns : List ℕ) (ok : Bool) → text ≡ front ++ word → true ≡ leb (length front + length word) 256 → ok ≡ leb (length (held w.lengths) + 1) 256 → ns ≡ cond ok (held w.lengths ++ length word ∷ []) (held w.lengths) → Lies ns text (listed w ++ word ∷ [])
+      push_lies text ns ok q room a n =
+          let m = leb-true _ 256 (sym room) in
+          let few : length (held w.lengths) + 1 ≤ 256 = omega (arith, count_is, used_is, front_size, behind_count (listed w)) in
+          let yes : ok ≡ true = a ∙ le-leb _ _ few in (
+            n ∙ ap (λ (b : Bool). cond b (held w.lengths ++ length word ∷ []) (held w.lengths)) yes
+                ∙ ap (λ (ms : List ℕ). ms ++ length word ∷ []) listed_lies.0
+                ∙ sym (map_push length (listed w) word),
+            q ∙ ap (λ (t : Bytes). t ++ word) (e ∙ ap (λ (t : Bytes). t ++ 32 ∷ []) listed_lies.1)
+                ∙ append_assoc (behind_blanks (listed w)) (32 ∷ []) word
+                ∙ sym (behind-push (listed w) word),
+          )
+
+      pub push_laid : (text ns : List ℕ) (ok : Bool) → text ≡ front ++ word → true ≡ leb (length front + length word) 256 → ok ≡ leb (length (held w.lengths) + 1) 256 → ns ≡ cond ok (held w.lengths ++ length word ∷ []) (held w.lengths) → laid ns text ≡ true
+      push_laid text ns ok q room a n = laid_is _ _ _ (push_lies text ns ok q room a n)
+
+      pub listed_push : (v : Words) (ok : Bool) → held v.text ≡ front ++ word → true ≡ leb (length front + length word) 256 → ok ≡ leb (length (held w.lengths) + 1) 256 → held v.lengths ≡ cond ok (held w.lengths ++ length word ∷ []) (held w.lengths) → listed v ≡ listed w ++ word ∷ []
+      listed_push v ok q room a n = listed_is v _ (push_lies (held v.text) (held v.lengths) ok q room a n)
+
+  -- past the end
+  pub past_fits : (i : ℕ) (word : Bytes) → length (listed w) ≤ i → true ≡ fits (set (listed w) i word)
+  past_fits i word h = sym (ap fits (set_past (listed w) i word h) ∙ listed_fits)
+
+  pub past_same : (i : ℕ) (word : Bytes) → length (listed w) ≤ i → listed w ≡ set (listed w) i word
+  past_same i word h = sym (set_past (listed w) i word h)
+
+  -- a word changed, where what stands before it ends with its blank
+  module _ (word : Bytes) (i a : ℕ) (h : i < length (listed w)) (e : a ≡ length (behind_blanks (take i (listed w)))) (t : Bytes) (k : t ≡ held w.text) where
+    pub front_within : a + 1 ≡ length (take (a + 1) t)
+    front_within = sym (length-take-le _ t (omega (arith, behind_more (listed w) i h, behind_le (listed w) (i + 1), used_is, ap length k)))
+
+    set_size : length (behind_blanks (set (listed w) i word)) ≡ a + 1 + length word + length (behind_blanks (drop (i + 1) (listed w)))
     set_size =
-        let front : Bytes = behind_blanks (take i (listed w)) in
-        let back : Bytes = behind_blanks (drop (i + 1) (listed w)) in
-        let p = ap length (behind-set (listed w) i word inside) in
-        let q = length-append front (32 ∷ (word ++ back)) in
-        let r = length-append word back in
-        let s = ap length (behind_split (listed w) (i + 1)) in
-        let t = length-append (behind_blanks (take (i + 1) (listed w))) back in
-        omega (arith, start_more w few i a h e, used_is w room)
+        omega (
+          arith,
+          ap length (behind-set (listed w) i word h),
+          length-append (behind_blanks (take i (listed w))) (32 ∷ (word ++ behind_blanks (drop (i + 1) (listed w)))),
+          length-append word (behind_blanks (drop (i + 1) (listed w))),
+        )
 
-    set_bytes : (moved part : List ℕ) → w.used - get_or w.lengths i 0 + length word ≤ length w.bytes → moved ≡ paste w.bytes (a + 1 + length word) (drop (a + 1 + get_or w.lengths i 0) w.bytes) (w.used - (a + 1 + get_or w.lengths i 0)) → part ≡ word → take (w.used - get_or w.lengths i 0 + length word) (put_mid (a + 1) (a + 1 + length word - (a + 1)) moved part) ≡ behind_blanks (set (listed w) i word)
-    set_bytes moved part top p q =
-        let n : ℕ = get_or w.lengths i 0 in
-        let ends : a + (n + 1) ≤ w.used = start_within w i a few room h e in
-        let next : a + 1 + n ≡ length (behind_blanks (take (i + 1) (listed w))) = omega (arith, start_more w few i a h e) in
-        let front : take (a + 1) w.bytes ≡ behind_blanks (take i (listed w)) ++ 32 ∷ [] = sym (take-take (a + 1) w.used w.bytes (omega arith)) ∙ ap (take (a + 1)) (listed_bytes w) ∙ behind_before (listed w) i a inside e in
-        let back : drop (a + 1 + n) (take w.used w.bytes) ≡ behind_blanks (drop (i + 1) (listed w)) = ap (drop (a + 1 + n)) (listed_bytes w) ∙ behind-drop (listed w) (i + 1) (a + 1 + n) next in
-        put_between w.bytes moved part word (a + 1) n w.used (a + 1 + length word - (a + 1)) (omega arith) room top (omega arith) p q
-        ∙ ap (λ (ys : Bytes). ys ++ (word ++ drop (a + 1 + n) (take w.used w.bytes))) front
-        ∙ ap (λ (ys : Bytes). behind_blanks (take i (listed w)) ++ 32 ∷ [] ++ (word ++ ys)) back
-        ∙ append_assoc (behind_blanks (take i (listed w))) (32 ∷ []) (word ++ behind_blanks (drop (i + 1) (listed w)))
-        ∙ sym (behind-set (listed w) i word inside)
+    module _ (front : Bytes) (p : front ≡ take (a + 1) t) where
+      before_size : length front ≡ a + 1
+      before_size = ap length p ∙ sym front_within
 
-    pub set_lies : (moved part : List ℕ) → w.used - get_or w.lengths i 0 + length word ≤ length w.bytes → moved ≡ paste w.bytes (a + 1 + length word) (drop (a + 1 + get_or w.lengths i 0) w.bytes) (w.used - (a + 1 + get_or w.lengths i 0)) → part ≡ word → Lies (take w.count (set w.lengths i (length word))) (take (w.used - get_or w.lengths i 0 + length word) (put_mid (a + 1) (a + 1 + length word - (a + 1)) moved part)) (set (listed w) i word)
-    set_lies moved part top p q = (set_lengths, set_bytes moved part top p q)
+      pub set_over : (ok : Bool) → ok ≡ false → false ≡ leb (length front + length word) 256 → ok ≡ fits (set (listed w) i word)
+      set_over ok d g = let m = leb-false _ 256 (sym g) in d ∙ sym (full_by _ (omega (arith, set_size, before_size)))
 
-module _ (w : Words) (word : Bytes) where
-  pub push_size : w.used ≤ length w.bytes → length (behind_blanks (listed w ++ word ∷ [])) ≡ w.used + 1 + length word
-  push_size room = omega (arith, ap length (behind-push (listed w) word), length-append (behind_blanks (listed w)) (32 ∷ word), used_is w room)
+      pub word_few : true ≡ leb (length front + length word) 256 → length word < 256
+      word_few g = let m = leb-true _ 256 (sym g) in omega (arith, before_size)
 
-  push_lengths : w.count < length w.lengths → take (w.count + 1) (set w.lengths w.count (length word)) ≡ map length (listed w ++ word ∷ [])
-  push_lengths h =
-      take_more_set w.lengths w.count (length word) h
-      ∙ ap (λ (ns : List ℕ). ns ++ length word ∷ []) (listed_lengths w)
-      ∙ sym (map_push length (listed w) word)
+      module _ (more back : Bytes) (q : more ≡ front ++ word) (r : back ≡ behind_blanks (drop (i + 1) (listed w))) where
+        all_size : length more + length back ≡ length (behind_blanks (set (listed w) i word))
+        all_size = omega (arith, ap length q, length-append front word, ap length r, set_size, before_size)
 
-  push_bytes : (part : List ℕ) (k : ℕ) → w.used + 1 + length word ≤ length w.bytes → part ≡ word → take (w.used + 1 + length word) (put_mid (w.used + 1) k (set w.bytes w.used 32) part) ≡ behind_blanks (listed w ++ word ∷ [])
-  push_bytes part k h e =
-      behind_end w.bytes part word w.used k h e
-      ∙ ap (λ (ys : Bytes). ys ++ 32 ∷ word) (listed_bytes w)
-      ∙ sym (behind-push (listed w) word)
+        pub set_full : (ok : Bool) → ok ≡ false → false ≡ leb (length more + length back) 256 → ok ≡ fits (set (listed w) i word)
+        set_full ok d g = let m = leb-false _ 256 (sym g) in d ∙ sym (full_by _ (omega (arith, all_size)))
 
-  pub push_lies : (part : List ℕ) (k : ℕ) → w.count < length w.lengths → w.used + 1 + length word ≤ length w.bytes → part ≡ word → Lies (take (w.count + 1) (set w.lengths w.count (length word))) (take (w.used + 1 + length word) (put_mid (w.used + 1) k (set w.bytes w.used 32) part)) (listed w ++ word ∷ [])
-  push_lies part k few room e = (push_lengths few, push_bytes part k room e)
+        pub set_fits : true ≡ leb (length more + length back) 256 → true ≡ fits (set (listed w) i word)
+        set_fits g = let m = leb-true _ 256 (sym g) in sym (fits_by _ (omega (arith, all_size)))
 
--- each word takes a byte at the least
-behind_count : (ws : List Bytes) → length ws ≤ length (behind_blanks ws)
-behind_count [] = omega arith
-behind_count (w ∷ ws) = omega (arith, behind_count ws, length-append w (behind_blanks ws))
+        set_lies : (text ns : List ℕ) → text ≡ more ++ back → ns ≡ set (held w.lengths) i (length word) → Lies ns text (set (listed w) i word)
+        set_lies text ns z n =
+            let before : front ≡ behind_blanks (take i (listed w)) ++ 32 ∷ [] = p ∙ ap (take (a + 1)) (k ∙ listed_lies.1) ∙ behind_before (listed w) i a h e in (
+              n ∙ ap (λ (ms : List ℕ). set ms i (length word)) listed_lies.0 ∙ sym (map-set length (listed w) i word),
+              z ∙ ap (λ (b : Bytes). b ++ back) (q ∙ ap (λ (b : Bytes). b ++ word) before)
+                  ∙ ap (λ (b : Bytes). behind_blanks (take i (listed w)) ++ 32 ∷ [] ++ word ++ b) r
+                  ∙ (simp append_assoc)
+                  ∙ sym (behind-set (listed w) i word h),
+            )
 
-pub count_le : (w : Words) → w.count ≤ length w.lengths → w.used ≤ length w.bytes → w.count ≤ w.used
-count_le w few room = omega (arith, behind_count (listed w), count_is w few, used_is w room)
+        pub set_laid : (text ns : List ℕ) → text ≡ more ++ back → ns ≡ set (held w.lengths) i (length word) → laid ns text ≡ true
+        set_laid text ns z n = laid_is _ _ _ (set_lies text ns z n)
+
+        pub listed_set : (v : Words) → held v.text ≡ more ++ back → held v.lengths ≡ set (held w.lengths) i (length word) → listed v ≡ set (listed w) i word
+        listed_set v z n = listed_is v _ (set_lies (held v.text) (held v.lengths) z n)
+
+-- what the check needs at each function
+pub ruleset no_words = (new_laid, listed_none)
+
+pub ruleset starts = (start_is, start_within, start_few)
+
+pub ruleset gets = (get_is, get_within)
+
+pub ruleset pushes = (push_full, push_over, push_fits, push_laid, listed_push)
+
+pub ruleset sets = (past_fits, past_same, front_within, set_over, word_few, set_full, set_fits, set_laid, listed_set, count_is)
+
+pub ruleset tails = (tail_laid, listed_tail)

@@ -10,7 +10,7 @@ impl<'a> Cue<'a> {
     pub fn new(codes: &'a [i32]) -> Cue<'a>
         ensures { cue_book result ≡ cued codes.now }
     {
-        Cue { codes, given: 0 }
+        Cue { codes }
     }
 }
 
@@ -18,11 +18,10 @@ impl Host for Cue<'_> {
     ghost book = { cue_book };
 
     fn issue(&mut self, _environment: &[u8], _command: &[u8]) -> i32 {
-        let given = self.given;
-        if given >= self.codes.len() {
+        let Some((code, rest)) = self.codes.split_first() else {
             return 0;
-        }
-        self.given = given + 1;
-        self.codes[given]
+        };
+        self.codes = rest;
+        *code
     }
 }

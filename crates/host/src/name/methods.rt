@@ -1,31 +1,17 @@
 // How a name is filled and read.
-ghost use Rattle.std.specs.Prelude.{◌≡◌, if◌then◌else◌, Some, None, codes};
-ghost use Rattle.std.specs.Option.{option_map};
+ghost use Rattle.std.specs.Prelude.{◌≡◌, codes};
 ghost use Rattle.host.specs.Names.{is_name, name_refusal};
 ghost use Rattle.host.specs.Refusals.{refused_with};
 ghost use Rattle.host.specs.Hosts.{name_of, NameLeft};
 
 use super::Name;
 use crate::refusal::Refusal;
-use text::{ShortText, all_within};
+use text::{Table, all_within};
 
 fn is_name(bytes: &[u8]) -> bool
     ensures { result ≡ is_name bytes.now }
 {
-    bytes.len() >= 1 && bytes.len() <= 8 && all_within(bytes, 33, 126)
-}
-
-// The name that `bytes` make, where they make one.
-fn named(bytes: &[u8]) -> Option<Name>
-    ensures { option_map name_of result ≡ (if is_name bytes.now then Some bytes.now else None) }
-{
-    if !is_name(bytes) {
-        return None;
-    }
-    match ShortText::new(bytes) {
-        Some(text) => Some(Name { text }),
-        None => None,
-    }
+    1 <= bytes.len() && bytes.len() <= 8 && all_within(bytes, 33, 126)
 }
 
 impl Name {
@@ -33,9 +19,8 @@ impl Name {
     pub fn new() -> Name
         ensures { name_of result ≡ codes "MAP" }
     {
-        match ShortText::new(b"MAP") {
-            Some(text) => Name { text },
-            None => unreachable(),
+        Name {
+            text: Table::from_bytes(b"MAP"),
         }
     }
 
@@ -44,18 +29,18 @@ impl Name {
         ensures answer { refused_with result ≡ name_refusal bytes.now }
         ensures after { NameLeft self.old bytes.now result self.new }
     {
-        match named(bytes) {
-            Some(name) => {
-                *self = name;
-                Ok(())
-            }
-            None => Err(Refusal::NotAName),
+        if !is_name(bytes) {
+            return Err(Refusal::NotAName);
         }
+        *self = Name {
+            text: Table::from_bytes(bytes),
+        };
+        Ok(())
     }
 
     pub fn as_bytes(&self) -> &[u8]
         ensures { result.now ≡ name_of self.now }
     {
-        self.text.as_bytes()
+        self.text.as_slice()
     }
 }

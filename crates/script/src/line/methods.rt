@@ -3,19 +3,17 @@ ghost use Rattle.std.specs.Prelude.{◌≡◌, ◌≤◌, length};
 ghost use Rattle.script.specs.Lines.{line_text, first_word_is};
 
 use super::Line;
-use text::{Named, next_word, same_bytes};
+use text::{Named, next_word};
 
 pub(crate) fn first_word_is(line: &[u8], name: &[u8]) -> bool
     ensures { result ≡ first_word_is name.now line.now }
 {
-    match next_word(line) {
-        Some((word, _)) => same_bytes(word, name),
-        None => false,
-    }
+    next_word(line).is_some_and(|(word, _)| word == name)
 }
 
 impl Line {
     // The line's bytes, as far as `bytes` has them.
+    #[tactic(auto, using(crate::proofs::Parts::cut_part))]
     pub fn text<'a>(&self, bytes: &'a [u8]) -> &'a [u8]
         ensures is { result.now ≡ line_text bytes.now self.now }
         ensures short { length result.now ≤ 255 }

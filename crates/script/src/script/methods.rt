@@ -26,29 +26,23 @@ impl<'b, 'd> Script<'b, 'd> {
     {
         Script {
             bytes: &FIRST,
-            directory: &FIRST_LINE,
-            count: 1,
+            lines: &FIRST_LINE,
         }
     }
 
     // Fills the script from `bytes`, with `directory` for its records, and answers the number of
     // lines; or refuses, and the script stays as it was.
+    #[tactic(auto, using(crate::proofs::Soundness::sound_filled))]
     pub fn check(&mut self, bytes: &'b [u8], directory: &'d mut [Line]) -> Result<usize, Refusal>
         ensures answer { told result ≡ judged bytes.now (length directory.old) }
         ensures after { Left self.old bytes.now directory.old result self.new }
     {
-        match fill(bytes, directory) {
-            Ok(count) => {
-                let directory: &'d [Line] = directory;
-                *self = Script {
-                    bytes,
-                    directory,
-                    count,
-                };
-                Ok(count)
-            }
-            Err(refusal) => Err(refusal),
-        }
+        let count = fill(bytes, directory)?;
+        *self = Script {
+            bytes,
+            lines: &directory[..count],
+        };
+        Ok(count)
     }
 
     pub fn bytes(&self) -> &'b [u8]
@@ -58,25 +52,20 @@ impl<'b, 'd> Script<'b, 'd> {
     }
 
     // The records of its lines.
+    #[tactic(auto, using(crate::proofs::Soundness::sound_records, crate::proofs::Soundness::sound_few))]
     pub fn lines(&self) -> &'d [Line]
         ensures is { result.now ≡ records_of (bytes_of self.now) }
         ensures few { length result.now ≤ 1024 }
     {
-        &self.directory[0..self.count]
+        self.lines
     }
 
     // The line of a number, counted from 1.
     pub fn line(&self, number: usize) -> Option<&'b [u8]>
         ensures { option_map (λ x. x.now) result ≡ line_numbered (script_lines self.now) number }
     {
-        if number == 0 {
-            return None;
-        }
-        let lines = self.lines();
-        if number > lines.len() {
-            return None;
-        }
-        Some(lines[number - 1].text(self.bytes))
+        let line = self.lines.get(number.checked_sub(1)?)?;
+        Some(line.text(self.bytes))
     }
 
     // The number of the first line whose first word is `label`, sought from the line that follows
@@ -84,9 +73,6 @@ impl<'b, 'd> Script<'b, 'd> {
     pub fn find_label(&self, from: usize, label: &[u8]) -> Option<usize>
         ensures { result ≡ labelled (script_lines self.now) from label.now }
     {
-        match find(self.lines(), from, self.bytes, label) {
-            Some(i) => Some(i + 1),
-            None => None,
-        }
+        find(self.lines(), from, self.bytes, label).map(|i| i + 1)
     }
 }

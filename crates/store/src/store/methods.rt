@@ -1,5 +1,6 @@
 // A new store.
-ghost use Rattle.std.specs.Prelude.{◌≡◌, ◌≤◌, length};
+ghost use Rattle.std.specs.Prelude.{◌≡◌};
+ghost use Rattle.text.specs.Shorts.{short_bytes};
 ghost use Rattle.script.specs.Views.{bytes_of};
 ghost use Rattle.language.specs.Cores.{fresh};
 ghost use Rattle.store.specs.Stores.{core_seen};
@@ -9,18 +10,17 @@ use crate::calls::Calls;
 use language::Life;
 use script::Script;
 use tables::Variables;
-use text::Text;
+use text::{Short, Text};
 use words::Words;
 
 impl<'b, 'd> Store<'b, 'd> {
     // At line 1, with the words of the string as its arguments.
-    pub fn new(script: Script<'b, 'd>, string: &[u8]) -> Store<'b, 'd>
-        requires { length string.now ≤ 255 }
-        ensures { core_seen result ≡ fresh (bytes_of script.entry) string.now }
+    pub fn new(script: Script<'b, 'd>, string: Short<'_>) -> Store<'b, 'd>
+        ensures { core_seen result ≡ fresh (bytes_of script.entry) (short_bytes string.entry) }
     {
         Store {
             script,
-            string: Text::from_bytes(string),
+            string: Text::from_short(string),
             variables: Variables::new(),
             arguments: Words::of_line(string),
             calls: Calls::new(),

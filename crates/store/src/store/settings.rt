@@ -1,5 +1,6 @@
 // Names set.
-ghost use Rattle.std.specs.Prelude.{◌≡◌, ◌≤◌, true, length, is_ok, MatchBool};
+ghost use Rattle.std.specs.Prelude.{◌≡◌, true, is_ok, MatchBool};
+ghost use Rattle.text.specs.Shorts.{short_bytes};
 ghost use Rattle.language.specs.Faults.{giving};
 ghost use Rattle.language.specs.Store.{settable, settable_by, put_by, put};
 ghost use Rattle.language.specs.Texts.{has_ampersand};
@@ -10,6 +11,7 @@ ghost use Rattle.store.specs.Stores.{core_seen};
 use super::Store;
 use keywords::kind_of;
 use language::{Kind, StoreFault};
+use text::Short;
 
 impl<'b, 'd> Store<'b, 'd> {
     fn is_settable_by(&self, kind: Kind) -> bool
@@ -22,22 +24,21 @@ impl<'b, 'd> Store<'b, 'd> {
         }
     }
 
-    fn put_by(&mut self, name: &[u8], value: &[u8], kind: Kind) -> Result<(), StoreFault>
-        requires name { length name.now ≤ 255 }
-        requires value { length value.now ≤ 255 }
-        ensures is { giving result (core_seen self.new) ≡ put_by (core_seen self.old) name.now value.now (kind_seen kind) }
+    fn put_by(&mut self, name: Short<'_>, value: Short<'_>, kind: Kind) -> Result<(), StoreFault>
+        ensures is { giving result (core_seen self.new) ≡ put_by (core_seen self.old) (short_bytes name.entry) (short_bytes value.entry) (kind_seen kind) }
         ensures unless { MatchBool (is_ok result) (Unit {0}) (core_seen self.new ≡ core_seen self.old) }
     {
         match kind {
             Kind::Kept(_) | Kind::Own | Kind::Absent => Err(StoreFault::CannotBeSet),
-            Kind::Argument(j) => match self.arguments.set(j.saturating_sub(1), value) {
-                Ok(()) => Ok(()),
-                Err(_) => Err(StoreFault::ListTooLong),
-            },
+            Kind::Argument(j) => self
+                .arguments
+                .set(j.saturating_sub(1), value.as_slice())
+                .map_err(|_| StoreFault::ListTooLong),
             Kind::Ordinary => self.variables.set(name, value),
         }
     }
 
+    #[tactic(auto, using(crate::proofs::Putting::settable_is))]
     pub fn is_settable(&self, name: &[u8]) -> bool
         ensures { result ≡ settable (core_seen self.now) name.now }
     {
@@ -45,14 +46,12 @@ impl<'b, 'd> Store<'b, 'd> {
     }
 
     // Sets a name, where it can be set. Every other name keeps its value.
-    pub fn put(&mut self, name: &[u8], value: &[u8]) -> Result<(), StoreFault>
-        requires name { length name.now ≤ 255 }
-        requires value { length value.now ≤ 255 }
-        ensures is { giving result (core_seen self.new) ≡ put (core_seen self.old) name.now value.now }
+    pub fn put(&mut self, name: Short<'_>, value: Short<'_>) -> Result<(), StoreFault>
+        ensures is { giving result (core_seen self.new) ≡ put (core_seen self.old) (short_bytes name.entry) (short_bytes value.entry) }
         ensures unless { MatchBool (is_ok result) (Unit {0}) (core_seen self.new ≡ core_seen self.old) }
-        ensures others { has_ampersand name.now ≡ true → OthersKept name.now (core_seen self.old) (core_seen self.new) }
+        ensures others { has_ampersand (short_bytes name.entry) ≡ true → OthersKept (short_bytes name.entry) (core_seen self.old) (core_seen self.new) }
     {
-        let kind = kind_of(name);
+        let kind = kind_of(name.as_slice());
         if !self.is_settable_by(kind) {
             return Err(StoreFault::CannotBeSet);
         }

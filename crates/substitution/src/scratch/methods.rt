@@ -1,8 +1,10 @@
 // What a scratch text can be asked and made to hold.
 ghost use Rattle.std.specs.Prelude.{◌≡◌, ◌<◌, ◌≤◌, [], ◌∷◌, length};
+ghost use Rattle.text.specs.Shorts.{short_bytes};
 ghost use Rattle.substitution.specs.Scratches.{scratch_held};
 
 use super::Scratch;
+use text::Short;
 
 impl Scratch {
     pub fn new() -> Scratch
@@ -18,22 +20,15 @@ impl Scratch {
         ensures is { result.now ≡ scratch_held self.now }
         ensures short { length result.now ≤ 255 }
     {
-        &self.bytes[255 - self.len..255]
+        &self.bytes[255 - self.len..]
     }
 
-    pub(crate) fn clear(&mut self)
-        ensures { scratch_held self.new ≡ [] }
+    pub(crate) fn set(&mut self, text: Short)
+        ensures { scratch_held self.new ≡ short_bytes text.entry }
     {
-        self.len = 0;
-    }
-
-    pub(crate) fn set(&mut self, text: &[u8])
-        requires { length text.now ≤ 255 }
-        ensures { scratch_held self.new ≡ text.now }
-    {
-        let n = text.len();
-        self.bytes[255 - n..255].copy_from_slice(text);
-        self.len = n;
+        let text = text.as_slice();
+        self.len = text.len();
+        self.bytes[255 - self.len..].copy_from_slice(text);
     }
 
     // One byte more in front.
@@ -41,7 +36,7 @@ impl Scratch {
         requires { length (scratch_held self.old) < 255 }
         ensures { scratch_held self.new ≡ b ∷ scratch_held self.old }
     {
-        self.bytes[254 - self.len] = b;
         self.len += 1;
+        self.bytes[255 - self.len] = b;
     }
 }

@@ -1,6 +1,6 @@
 // Lines added at either end and taken from the front.
 ghost use Rattle.std.specs.Prelude.{◌≡◌, ◌+◌, ◌<◌, ◌≤◌, [], ◌∷◌, ◌++◌, length, MatchOption};
-ghost use Rattle.text.specs.Bytes.{held};
+ghost use Rattle.text.specs.Tables.{held};
 ghost use Rattle.tables.specs.Tables.{lines_seen, wrapped};
 
 use super::Lines;
@@ -13,8 +13,7 @@ fn place(first: usize, k: usize) -> usize
     ensures is { result ≡ wrapped 32 (first + k) }
     ensures within { result < 32 }
 {
-    let at = first + k;
-    if at < 32 { at } else { at - 32 }
+    (first + k) % 32
 }
 
 impl Lines {
@@ -28,6 +27,7 @@ impl Lines {
         }
     }
 
+    #[tactic(auto, using(crate::proofs::Seen::seen_length))]
     pub fn len(&self) -> usize
         ensures { result ≡ length (lines_seen self.now) }
     {
@@ -35,6 +35,7 @@ impl Lines {
     }
 
     // One more line, behind all others.
+    #[tactic(auto, using(crate::proofs::Seen::seen_length, crate::proofs::Seen::pushed_last))]
     pub fn push_last(&mut self, line: Text)
         requires { length (lines_seen self.old) < 32 }
         ensures { lines_seen self.new ≡ lines_seen self.old ++ held line ∷ [] }
@@ -45,6 +46,7 @@ impl Lines {
     }
 
     // One more line, before all others.
+    #[tactic(auto, using(crate::proofs::Seen::seen_length, crate::proofs::Seen::pushed_first))]
     pub fn push_first(&mut self, line: Text)
         requires { length (lines_seen self.old) < 32 }
         ensures { lines_seen self.new ≡ held line ∷ lines_seen self.old }
@@ -56,6 +58,7 @@ impl Lines {
     }
 
     // Takes the first line out; none where there is none.
+    #[tactic(auto, using(crate::proofs::Seen::taken_first))]
     pub fn take_first(&mut self) -> Option<Text>
         ensures { MatchOption result ((lines_seen self.old ≡ []) × (self.new ≡ self.old)) (λ t. lines_seen self.old ≡ held t ∷ lines_seen self.new) }
     {

@@ -1,40 +1,46 @@
-// What a short text can be asked and made to hold.
-ghost use Rattle.std.specs.Prelude.{◌≡◌, ◌≤◌, [], length, if◌then◌else◌, Some, None, nat_le};
-ghost use Rattle.std.specs.Option.{option_map};
-ghost use Rattle.text.specs.Bytes.{short_held};
+// How a short slice is made and read.
+ghost use Rattle.std.specs.Prelude.{◌≡◌, ◌≤◌, length};
+ghost use Rattle.text.specs.Shorts.{short_bytes};
+ghost use Rattle.text.specs.Tables.{held};
 
-use super::ShortText;
+use super::Short;
+use crate::table::Text;
 
-impl ShortText {
-    pub fn empty() -> ShortText
-        ensures { short_held result ≡ [] }
+impl<'a> Short<'a> {
+    // For bytes that are known to be few.
+    pub fn of(bytes: &'a [u8]) -> Short<'a>
+        requires { length bytes.now ≤ 255 }
+        ensures { short_bytes result ≡ bytes.now }
     {
-        ShortText {
-            bytes: [0u8; 8],
-            len: 0,
-        }
+        Short { bytes }
     }
 
-    // The text that holds `bytes`; none where they are more than 8.
-    pub fn new(bytes: &[u8]) -> Option<ShortText>
-        ensures { option_map short_held result ≡ (if nat_le (length bytes.now) 8 then Some bytes.now else None) }
+    pub fn as_slice(&self) -> &'a [u8]
+        ensures is { result.now ≡ short_bytes self.now }
+        ensures short { length result.now ≤ 255 }
     {
-        let n = bytes.len();
-        if n > 8 {
-            return None;
-        }
-        let mut held = [0u8; 8];
-        held[0..n].copy_from_slice(bytes);
-        Some(ShortText {
-            bytes: held,
-            len: n,
-        })
+        self.bytes
+    }
+}
+
+impl Text {
+    pub fn as_short(&self) -> Short<'_>
+        ensures { short_bytes result ≡ held self.now }
+    {
+        Short::of(self.as_slice())
     }
 
-    pub fn as_bytes(&self) -> &[u8]
-        ensures is { result.now ≡ short_held self.now }
-        ensures short { length result.now ≤ 8 }
+    // The text that holds the bytes of a short slice.
+    pub fn from_short(short: Short<'_>) -> Text
+        ensures { held result ≡ short_bytes short.entry }
     {
-        &self.bytes[0..self.len]
+        Text::from_bytes(short.as_slice())
+    }
+
+    // Holds the bytes of a short slice in place of what it held.
+    pub fn set_short(&mut self, short: Short<'_>)
+        ensures { held self.new ≡ short_bytes short.entry }
+    {
+        let _ = self.set(short.as_slice());
     }
 }

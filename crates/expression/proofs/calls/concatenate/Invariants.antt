@@ -1,8 +1,8 @@
-use Rattle.std.proofs.Common.{◌≡◌, ◌++◌, drop}
+use Rattle.std.proofs.Common.{◌≡◌, ◌++◌}
+use Rattle.text.specs.Tables.{held}
 use Rattle.language.specs.Functions.{concatenated}
-use Rattle.text.specs.Bytes.{held}
-use Rattle.words.specs.Listed.{listed}
+use Rattle.expression.specs.Tails.{words_in}
 use Rattle.expression.proofs.calls.concatenate.Given as goal
 
-abbrev pub invariant-loop-i : goal.invariant-loop-i
-invariant-loop-i l = held l.value ++ concatenated (drop l.i (listed l.words)) ≡ concatenated (drop l.at (listed l.words))
+abbrev pub invariant-loop-word : goal.invariant-loop-word
+invariant-loop-word l = held l.value ++ concatenated (words_in l.word-iterator) ≡ concatenated (words_in l.fn.words)

@@ -1,14 +1,12 @@
-use Rattle.std.proofs.Common.{◌≡◌, ◌+◌, ◌-◌, [], get_or, drop}
-use Rattle.text.specs.Numbers.{number_of}
-use Rattle.language.specs.Assignments.{items_of}
-use Rattle.words.specs.Listed.{listed}
-use Rattle.expression.specs.Sums.{first_of, walk}
+use Rattle.std.proofs.Common.{◌≡◌}
+use Rattle.language.specs.Assignments.{yields}
+use Rattle.expression.specs.Calls.{stated}
+use Rattle.expression.specs.Items.{item_seen, items_in}
+use Rattle.expression.specs.Sums.{term_of, walk}
 use Rattle.expression.proofs.sums.sum.Given as goal
 
-abbrev pub invariant-loop-i : goal.invariant-loop-i
-invariant-loop-i l =
-    walk l.total (items_of (drop l.i (listed l.words)))
-    ≡ walk (first_of (number_of (get_or (listed l.words) l.from []))) (items_of (drop (l.from + 1) (listed l.words)))
-
-abbrev pub decreases-loop-i : goal.decreases-loop-i
-decreases-loop-i l = l.n - l.i
+abbrev pub invariant-loop-sign : goal.invariant-loop-sign
+invariant-loop-sign l =
+    (goal.iterator-loop-sign).can_next l.items
+    × (goal.iterator-loop-sign).is_finite l.items
+    × (walk l.total (items_in l.items) ≡ walk (stated (term_of (yields (item_seen l.fn.item)))) (items_in l.fn.items))

@@ -1,6 +1,8 @@
 use Rattle.language.specs.Functions.{function_of}
+use Rattle.language.specs.Views.{function_seen}
+use Rattle.keywords.proofs.Sieve.{found}
 use Rattle.keywords.proofs.words.function_of.Goals as goal
 
 pub returns : goal.returns
 unfolding function_of
-returns c = c.function.ensures
+returns c = search (found function_seen)

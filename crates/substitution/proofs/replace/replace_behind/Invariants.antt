@@ -6,8 +6,4 @@ use Rattle.substitution.proofs.replace.replace_behind.Given as goal
 
 abbrev pub invariant-loop-i : goal.invariant-loop-i
 invariant-loop-i l =
-    (l.from ≤ l.i) × (l.i ≤ length l.word) × (l.i + length (scratch_held l.text) ≤ 255)
-    × (substituted (core_seen l.store) l.i (drop l.i l.word) ≡ Ok (scratch_held l.text))
-
-abbrev pub decreases-loop-i : goal.decreases-loop-i
-decreases-loop-i l = l.i
+    record { from : l.from ≤ l.i; within : l.i + length (scratch_held l.text) ≤ 255; is : substituted (core_seen l.store) l.i (drop l.i l.word) ≡ Ok (scratch_held l.text) }

@@ -1,22 +1,6 @@
 use Rattle.std.proofs.Common.{◌+◌, ◌-◌, ◌*◌, get_or, drop, sym, ◌∙◌, arith}
-use Rattle.text.proofs.Digits.{over, at_digit, at_other, all_read, some_digits}
+use Rattle.text.proofs.Digits.{over, at_digit, some_digits}
 use Rattle.text.proofs.numbers.magnitude.Goals as goal
-
-pub loop-b-preserved : goal.loop-b-preserved
-loop-b-preserved c = (
-  omega arith,
-  sym (at_digit c.args.digits.now c.loop-b.b-index c.loop-b.n (omega arith) c.if-not-is_ascii_digit.ensures.value)
-      ∙ c.loop-b.invariant.1,
-)
-
-pub returns-then-not-is_ascii_digit : goal.returns-then-not-is_ascii_digit
-returns-then-not-is_ascii_digit c =
-    record {
-      is =
-          sym (at_other c.args.digits.now c.loop-b.b-index c.loop-b.n (omega arith) c.if-not-is_ascii_digit.ensures.value)
-          ∙ c.loop-b.invariant.1 ∙ sym (some_digits c.args.digits.now c.if-digits-eq0.false);
-      small = tt;
-    }
 
 pub returns-then-n-gt2147483648 : goal.returns-then-n-gt2147483648
 returns-then-n-gt2147483648 c =
@@ -24,15 +8,6 @@ returns-then-n-gt2147483648 c =
       is =
           sym (over (c.loop-b.n * 10 + (get_or c.args.digits.now c.loop-b.b-index 0 - 48)) (drop (c.loop-b.b-index + 1) c.args.digits.now) (omega arith))
           ∙ sym (at_digit c.args.digits.now c.loop-b.b-index c.loop-b.n (omega arith) c.if-not-is_ascii_digit.ensures.value)
-          ∙ c.loop-b.invariant.1 ∙ sym (some_digits c.args.digits.now c.if-digits-eq0.false);
+          ∙ c.loop-b.invariant.1 ∙ sym (some_digits c.args.digits.now (sym c.is_empty.ensures ∙ c.if-is_empty.false));
       small = tt;
-    }
-
-pub returns : goal.returns
-returns c =
-    record {
-      is =
-          sym (all_read c.args.digits.now c.loop-b.b-index c.loop-b.n (omega arith) (omega arith))
-          ∙ c.loop-b.invariant.1 ∙ sym (some_digits c.args.digits.now c.if-digits-eq0.false);
-      small = omega arith;
     }

@@ -1,19 +1,11 @@
-use Rattle.std.proofs.Common.{length, refl, arith}
-use Rattle.text.proofs.Rounds.{found_first, found_round, found_below}
+use Rattle.std.proofs.Common.{refl}
+use Rattle.text.proofs.Rounds.{found_behind, found_before}
 use Rattle.text.proofs.search.find.Goals as goal
 
-pub returns-in-Some : goal.returns-in-Some
-returns-in-Some g c =
-    record {
-      is = found_first _ c.args.records.now c.args.from _ c.in-Some.ensures.is _ refl;
-      within = c.in-Some.ensures.within;
-    }
+pub returns-in-Some-clause-is : goal.returns-in-Some-clause-is
+returns-in-Some-clause-is g c =
+    found_behind _ c.args.records.now _ _ c.args.from c.min.result c.min.ensures c.split_at.ensures.front c.split_at.ensures.back _ c.in-Some.ensures.is _ refl
 
-pub returns-in-None : goal.returns-in-None
-returns-in-None g c =
-    record {
-      is =
-          found_round _ c.args.records.now c.args.from _ c.in-None.ensures.is _ c.min.result refl c.min.ensures c.find_between-in-None.ensures.is;
-      within =
-          found_below c.find_between-in-None.result c.min.result (length c.args.records.now) (omega (arith, c.min.ensures)) c.find_between-in-None.ensures.within;
-    }
+pub returns-in-None-clause-is : goal.returns-in-None-clause-is
+returns-in-None-clause-is g c =
+    found_before _ c.args.records.now _ _ c.args.from c.min.result c.min.ensures c.split_at.ensures.front c.split_at.ensures.back _ c.in-None.ensures.is _ refl c.find_first-in-None.ensures.is

@@ -1,12 +1,12 @@
-use Rattle.std.proofs.Common.{Some, ap, ◌∙◌}
-use Rattle.script.proofs.Texts.{line_past, line_at}
+use Rattle.std.proofs.Common.{Some, sym, ap, ◌∙◌}
+use Rattle.script.proofs.Soundness.{sound_records}
+use Rattle.script.proofs.Texts.{line_found}
 use Rattle.script.proofs.script.Script.line.Goals as goal
-
-pub returns-then-number-lines : goal.returns-then-number-lines
-returns-then-number-lines c =
-    line_past c.args.self.now.bytes.now c.lines-lines.result.now c.lines-lines.ensures.is c.args.number c.if-number-lines.true
 
 pub returns : goal.returns
 returns c =
+    let s = c.args.self.now in
+    let i = c.in_ok-checked_sub.ensures in
+    let at = c.in_ok-line.ensures.lookup in
     ap Some c.text.ensures.is
-    ∙ line_at c.args.self.now.bytes.now c.lines-lines.result.now c.lines-lines.ensures.is c.args.number _ c.if-number-eq0.false c.if-number-lines.false
+    ∙ line_found s.bytes.now s.lines.now (sound_records s.bytes.now s.lines.now s.checked) c.args.number _ _ i.0 (sym i.1) at.3.0 at.1
