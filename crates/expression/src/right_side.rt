@@ -13,7 +13,8 @@ use language::StatementFault;
 use text::Text;
 use words::Words;
 
-// Puts the value of the words from a place on into `value`, which is lent so that no text is copied.
+// Puts the value of the words from a place on into `value`, which is lent so that the
+// caller's text is filled in place.
 #[tactic(auto, using(crate::proofs::Walks::sum_is))]
 pub fn evaluate(words: &Words, from: usize, value: &mut Text) -> Result<(), StatementFault>
     ensures { giving result (held value.new) ≡ right_side (items_of (drop from (listed words.now))) }

@@ -9,6 +9,7 @@ pub enum Refusal {
 }
 
 impl Refusal {
+    // A method of its own: in a trait, every impl would want the same line.
     pub fn number(&self) -> u8
         ensures { result ≡ refusal_number self.now }
     {

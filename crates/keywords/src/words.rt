@@ -25,7 +25,7 @@ pub fn function_of(word: &[u8]) -> Option<Function>
     look_up(FUNCTIONS, word)
 }
 
-// This and the next are a match and no table, since several spellings stand for one value.
+// This and the next are a match and no table, so that the spellings of one value stand in one arm.
 #[tactic(auto, unfolding(language::specs::Conditions::comparative_of))]
 pub fn comparative_of(word: &[u8]) -> Option<Comparative>
     ensures { option_map comparative_seen result ≡ comparative_of word.now }

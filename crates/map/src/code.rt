@@ -14,6 +14,7 @@ pub enum Code {
 }
 
 impl Code {
+    // A method of its own: in a trait, every impl would want the same line.
     pub fn number(&self) -> i32
         ensures { result ≡ code_number self.now }
     {

@@ -8,7 +8,8 @@ ghost use Rattle.map.specs.Written.{order_seen};
 
 use text::{Table, next_word, number};
 
-// A piece, and the row and column that it is to stand on.
+// A piece, and the row and column that it is to stand on: numbers as written, which need be no
+// square.
 #[derive(Clone, Copy)]
 pub(crate) enum Order {
     Place(Table<u8, 8>, i32, i32),

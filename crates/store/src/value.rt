@@ -9,6 +9,6 @@ pub enum Value<'a> {
     Own,
     Count(u64),
     Code(i32),
-    // The name is not carried.
+    // The name is not carried: a case like the others, since the one reader tells all of them apart.
     Absent,
 }

@@ -44,7 +44,8 @@ fn replace_name(store: &Store, left: usize, text: &mut Scratch) -> Result<(), Wo
     }
 }
 
-// What stands behind the first `from` bytes of a word, with its names replaced.
+// What stands behind the first `from` bytes of a word, with its names replaced. The word is a slice,
+// since it is read byte by byte.
 fn replace_behind(store: &Store, word: &[u8], from: usize) -> Result<Scratch, WordFault>
     requires short { length word.now ≤ 255 }
     requires from { from ≤ length word.now }

@@ -17,7 +17,8 @@ fn is_other(holder: Option<usize>, i: usize) -> bool
 }
 
 impl<const SIDE: u8, const ROOM: usize> Grid<SIDE, ROOM> {
-    // A row or a column from 1 to the side.
+    // A row or a column from 1 to the side. A match, since of a `filter` over the converted number
+    // the bounds were not proved.
     fn in_side(z: i32) -> Option<u8>
         ensures { MatchOption result (on_board SIDE z ≡ false) (λ n. (on_board SIDE z ≡ true) × (z ≡ pos n)) }
     {

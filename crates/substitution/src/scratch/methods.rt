@@ -16,6 +16,7 @@ impl Scratch {
         }
     }
 
+    // A slice with its bound as a clause, since those who read it want the slice.
     pub fn as_bytes(&self) -> &[u8]
         ensures is { result.now ≡ scratch_held self.now }
         ensures short { length result.now ≤ 255 }

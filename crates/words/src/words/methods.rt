@@ -119,7 +119,8 @@ impl Words {
         }
     }
 
-    // The words of a line; they are no longer than the line.
+    // The words of a line; they are no longer than the line. The call that cuts a word hands out what
+    // follows it, so no index is counted.
     pub fn of_line(line: Short<'_>) -> Words
         ensures { listed result ≡ words_of (short_bytes line.entry) }
     {
