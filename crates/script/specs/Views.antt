@@ -1,5 +1,5 @@
 -- What a checked script shows, and how Check leaves it.
-use Rattle.std.specs.Prelude.{◌≡◌, ℕ, zero, suc, ◌+◌, List, length, take, None, Ok, Err, Option, Result}
+use Rattle.std.specs.Prelude.{◌≡◌, ℕ, zero, suc, ◌+◌, List, length, take, drop, None, Ok, Err, Option, Result}
 use Rattle.std.specs.Option.{option_map}
 use Rattle.std.specs.List.{slice_get}
 use Rattle.text.specs.Search.{first_round}
@@ -24,7 +24,7 @@ line_numbered lines (suc i) = slice_get lines i
 abbrev pub labelled : List (List ℕ) → ℕ → List ℕ → Option ℕ
 labelled lines from label = option_map (λ i. i + 1) (first_round (first_word_is label) from lines)
 
--- how Check leaves a script: with the bytes and the records that it was given, or as it was
+-- how Check leaves a script: with the bytes and the directory that it was given, or as it was
 abbrev pub Left : Script → List ℕ → List Line → Result ℕ Refusal → Script → Type 0
-Left was bytes directory (Ok n) is = (bytes_of is ≡ bytes) × (is.lines.now ≡ take n (filled bytes directory (Ok n))) × (length is.lines.now ≡ n)
+Left was bytes directory (Ok n) is = (bytes_of is ≡ bytes) × (is.lines.now ≡ take n (filled bytes directory (Ok n))) × (is.beyond.now ≡ drop n (filled bytes directory (Ok n))) × (length is.lines.now ≡ n)
 Left was bytes directory (Err e) is = is ≡ was

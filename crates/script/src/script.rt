@@ -1,4 +1,4 @@
-// A checked script: its bytes, and the records of its lines.
+// A checked script: its bytes, and the directory that it was lent.
 ghost use Rattle.std.specs.Prelude.{◌≡◌, true};
 ghost use Rattle.script.specs.Scripts.{sound};
 
@@ -11,5 +11,7 @@ mod methods;
 pub struct Script<'b, 'd> {
     bytes: &'b [u8],
     lines: &'d [Line],
+    // The records of the directory behind those of its lines: the caller's own, which Check leaves.
+    beyond: &'d [Line],
     ghost checked: { sound bytes.now lines.now ≡ true },
 }

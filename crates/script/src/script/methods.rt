@@ -27,6 +27,7 @@ impl<'b, 'd> Script<'b, 'd> {
         Script {
             bytes: &FIRST,
             lines: &FIRST_LINE,
+            beyond: &[],
         }
     }
 
@@ -38,9 +39,11 @@ impl<'b, 'd> Script<'b, 'd> {
         ensures after { Left self.old bytes.now directory.old result self.new }
     {
         let count = fill(bytes, directory)?;
+        let (lines, beyond) = directory.split_at(count);
         *self = Script {
             bytes,
-            lines: &directory[..count],
+            lines,
+            beyond,
         };
         Ok(count)
     }
