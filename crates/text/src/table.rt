@@ -1,5 +1,5 @@
 // A table of at most so many items, held in place: the first of an array are in use.
-ghost use Rattle.std.specs.Prelude.{◌≤◌};
+ghost use Rattle.std.specs.Prelude.{◌≡◌, ◌≤◌, ⊤};
 
 use std::alloc::AllocError;
 
@@ -16,6 +16,10 @@ pub struct Table<T, const N: usize> {
 
 // By hand: a derived clone would clone each item, and the ghost field allows no more than a copy.
 impl<T: Copy, const N: usize> Clone for Table<T, N> {
+    ghost is_clone = { λ x y. y ≡ x };
+
+    ghost is_infallible = { λ _. ⊤ };
+
     fn clone(&self) -> Result<Self, AllocError> {
         Ok(*self)
     }
