@@ -2,7 +2,7 @@
 use Rattle.std.proofs.Common.{◌≡◌, ℕ, ◌+◌, ◌-◌, ◌<◌, ◌≤◌, Bool, true, false, cond, leb, List, [], ◌∷◌, ◌++◌, min, length, get_or, take, drop, set, sym, ap, ◌∙◌, append_assoc, arith, length-append, length-drop, length-take, length-take-le}
 use Rattle.std.specs.List.{sum_by}
 use Rattle.std.proofs.lemmas.Bool.{leb-true, leb-false, le-leb}
-use Rattle.std.proofs.lemmas.List.{length-map, take_all, take_min, take-map, drop_min, drop-map, map-set, map_push, set_past}
+use Rattle.std.proofs.lemmas.List.{length-map, drop_all, take_all, take_min, take-map, drop_min, drop-map, map-set, map_push, set_past}
 use Rattle.text.specs.Tables.{held}
 use Rattle.language.specs.Texts.{Bytes, behind_blanks, spaced, fits}
 use Rattle.words.specs.Layout.{laid}
@@ -58,6 +58,9 @@ module _ (w : Words) where
       ∙ ap (drop a) (q ∙ listed_lies.1)
       ∙ behind-drop (listed w) i a e
 
+  pub behind_past : (i : ℕ) → length (listed w) ≤ i → [] ≡ behind_blanks (drop i (listed w))
+  behind_past i h = sym (ap behind_blanks (drop_all i (listed w) h))
+
   length_is : (i n : ℕ) (ns : List ℕ) → n ≡ get_or ns i 0 → ns ≡ held w.lengths → n ≡ length (get_or (listed w) i [])
   length_is i n ns h e = h ∙ ap (λ (ms : List ℕ). get_or ms i 0) (e ∙ listed_lies.0) ∙ length_at (listed w) i
 
@@ -91,39 +94,33 @@ module _ (w : Words) where
     push_size : length (behind_blanks (listed w ++ word ∷ [])) ≡ length (held w.text) + 1 + length word
     push_size = omega (arith, ap length (behind-push (listed w) word), length-append (behind_blanks (listed w)) (32 ∷ word), used_is)
 
-    -- no room for the blank, and none for the word behind it
-    pub push_full : (ok : Bool) → ok ≡ false → false ≡ leb (length (held w.text) + 1) 256 → ok ≡ fits (listed w ++ word ∷ [])
-    push_full ok e h = let m = leb-false _ 256 (sym h) in e ∙ sym (full_by _ (omega (arith, push_size)))
+    pub push_full : 256 - length (held w.text) ≤ length word → false ≡ fits (listed w ++ word ∷ [])
+    push_full h = sym (full_by _ (omega (arith, push_size, used_few)))
 
-    module _ (front : Bytes) (e : front ≡ held w.text ++ 32 ∷ []) where
-      front_size : length front ≡ length (held w.text) + 1
-      front_size = ap length e ∙ length-append (held w.text) (32 ∷ [])
+    pub push_fits : length word < 256 - length (held w.text) → true ≡ fits (listed w ++ word ∷ [])
+    push_fits h = sym (fits_by _ (omega (arith, push_size)))
 
-      pub push_over : (ok : Bool) → ok ≡ false → false ≡ leb (length front + length word) 256 → ok ≡ fits (listed w ++ word ∷ [])
-      push_over ok d h = let m = leb-false _ 256 (sym h) in d ∙ sym (full_by _ (omega (arith, push_size, front_size)))
-
-      pub push_fits : true ≡ leb (length front + length word) 256 → true ≡ fits (listed w ++ word ∷ [])
-      push_fits h = let m = leb-true _ 256 (sym h) in sym (fits_by _ (omega (arith, push_size, front_size)))
-
-      -- the count takes no more than the bytes
-      push_lies : (text ns : List ℕ) (ok : Bool) → text ≡ front ++ word → true ≡ leb (length front + length word) 256 → ok ≡ leb (length (held w.lengths) + 1) 256 → ns ≡ cond ok (held w.lengths ++ length word ∷ []) (held w.lengths) → Lies ns text (listed w ++ word ∷ [])
-      push_lies text ns ok q room a n =
-          let m = leb-true _ 256 (sym room) in
-          let few : length (held w.lengths) + 1 ≤ 256 = omega (arith, count_is, used_is, front_size, behind_count (listed w)) in
-          let yes : ok ≡ true = a ∙ le-leb _ _ few in (
-            n ∙ ap (λ (b : Bool). cond b (held w.lengths ++ length word ∷ []) (held w.lengths)) yes
+    -- where there is room, the blank, the word and its length all have theirs
+    module _ (h : length word < 256 - length (held w.text)) (front text ns : List ℕ) (a b c : Bool) (ea : a ≡ leb (length (held w.text) + 1) 256) (ef : front ≡ cond a (held w.text ++ 32 ∷ []) (held w.text)) (eb : b ≡ leb (length front + length word) 256) (et : text ≡ cond b (front ++ word) front) (ec : c ≡ leb (length (held w.lengths) + 1) 256) (en : ns ≡ cond c (held w.lengths ++ length word ∷ []) (held w.lengths)) where
+      push_lies : Lies ns text (listed w ++ word ∷ [])
+      push_lies =
+          let f : front ≡ held w.text ++ 32 ∷ [] = ef ∙ ap (λ (t : Bool). cond t (held w.text ++ 32 ∷ []) (held w.text)) (ea ∙ le-leb _ _ (omega arith)) in
+          let size : length front ≡ length (held w.text) + 1 = ap length f ∙ length-append (held w.text) (32 ∷ []) in
+          let few : length (held w.lengths) + 1 ≤ 256 = omega (arith, count_is, used_is, behind_count (listed w)) in (
+            en ∙ ap (λ (t : Bool). cond t (held w.lengths ++ length word ∷ []) (held w.lengths)) (ec ∙ le-leb _ _ few)
                 ∙ ap (λ (ms : List ℕ). ms ++ length word ∷ []) listed_lies.0
                 ∙ sym (map_push length (listed w) word),
-            q ∙ ap (λ (t : Bytes). t ++ word) (e ∙ ap (λ (t : Bytes). t ++ 32 ∷ []) listed_lies.1)
+            et ∙ ap (λ (t : Bool). cond t (front ++ word) front) (eb ∙ le-leb _ _ (omega arith))
+                ∙ ap (λ (t : Bytes). t ++ word) (f ∙ ap (λ (t : Bytes). t ++ 32 ∷ []) listed_lies.1)
                 ∙ append_assoc (behind_blanks (listed w)) (32 ∷ []) word
                 ∙ sym (behind-push (listed w) word),
           )
 
-      pub push_laid : (text ns : List ℕ) (ok : Bool) → text ≡ front ++ word → true ≡ leb (length front + length word) 256 → ok ≡ leb (length (held w.lengths) + 1) 256 → ns ≡ cond ok (held w.lengths ++ length word ∷ []) (held w.lengths) → laid ns text ≡ true
-      push_laid text ns ok q room a n = laid_is _ _ _ (push_lies text ns ok q room a n)
+      pub push_laid : laid ns text ≡ true
+      push_laid = laid_is _ _ _ push_lies
 
-      pub listed_push : (v : Words) (ok : Bool) → held v.text ≡ front ++ word → true ≡ leb (length front + length word) 256 → ok ≡ leb (length (held w.lengths) + 1) 256 → held v.lengths ≡ cond ok (held w.lengths ++ length word ∷ []) (held w.lengths) → listed v ≡ listed w ++ word ∷ []
-      listed_push v ok q room a n = listed_is v _ (push_lies (held v.text) (held v.lengths) ok q room a n)
+      pub listed_push : (v : Words) → held v.text ≡ text → held v.lengths ≡ ns → listed v ≡ listed w ++ word ∷ []
+      listed_push v t n = listed_is v _ (n ∙ push_lies.0, t ∙ push_lies.1)
 
   -- past the end
   pub past_fits : (i : ℕ) (word : Bytes) → length (listed w) ≤ i → true ≡ fits (set (listed w) i word)
@@ -187,9 +184,11 @@ pub ruleset no_words = (new_laid, listed_none)
 
 pub ruleset starts = (start_is, start_within, start_few)
 
+pub ruleset behinds = (behind_is, behind_past)
+
 pub ruleset gets = (get_is, get_within)
 
-pub ruleset pushes = (push_full, push_over, push_fits, push_laid, listed_push)
+pub ruleset pushes = (push_full, push_fits, push_laid, listed_push)
 
 pub ruleset sets = (past_fits, past_same, front_within, set_over, word_few, set_full, set_fits, set_laid, listed_set, count_is)
 

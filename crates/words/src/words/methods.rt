@@ -47,12 +47,15 @@ impl Words {
         size(&lengths[..i.min(lengths.len())])
     }
 
-    // The words from a place on, each behind its blank.
-    #[tactic(auto, using(crate::proofs::Listings::behind_is))]
+    // The words from a place on, each behind its blank; past the last word none is sought.
+    #[tactic(auto, using(crate::proofs::Listings::behinds))]
     fn behind(&self, i: usize) -> &[u8]
         ensures is { result.now ≡ behind_blanks (drop i (listed self.now)) }
         ensures within { length result.now ≤ 256 }
     {
+        if i >= self.len() {
+            return &[];
+        }
         &self.text.as_slice()[self.start(i)..]
     }
 
@@ -81,10 +84,11 @@ impl Words {
         ensures answer { is_ok result ≡ fits (listed self.old ++ word.now ∷ []) }
         ensures after { listed self.new ≡ (if is_ok result then listed self.old ++ word.now ∷ [] else listed self.old) }
     {
-        let mut text = self.text;
-        text.push(b' ')?;
-        text.append(word)?;
-        self.text = text;
+        if word.len() >= 256 - self.text.as_slice().len() {
+            return Err(Full);
+        }
+        let _ = self.text.push(b' ');
+        let _ = self.text.append(word);
         let _ = self.lengths.push(word.len() as u8);
         Ok(())
     }
