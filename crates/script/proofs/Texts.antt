@@ -8,8 +8,10 @@ use Rattle.std.proofs.lemmas.Bool.{cases_Bool}
 use Rattle.text.specs.Search.{first_round}
 use Rattle.text.proofs.Rounds.{first_round-map}
 use Rattle.script.specs.Lines.{lines_after, lines_of, records_from, records_of, line_text, first_word_is}
+use Rattle.script.specs.Scripts.{sound}
 use Rattle.script.specs.Views.{line_numbered}
 use Rattle.script.specs.declared.line.Line.{Line}
+use Rattle.script.proofs.Soundness.{sound_records}
 
 -- the part of a text between what stands before and after it
 part : (before l after : List ℕ) (at : ℕ) → at ≡ length before → take (length l) (drop at (before ++ (l ++ after))) ≡ l
@@ -49,3 +51,8 @@ module _ (bytes : List ℕ) (records : List Line) (all : records ≡ records_of 
       let n : k ≡ i = omega arith in
       let s : slice_get records k ≡ Some l = slice_get_read records (length records) k l refl (omega arith) (g ∙ ap (λ (m : ℕ). get_or records m l) (sym n)) in
       sym (line_at k ∙ ap (option_map (line_text bytes)) s)
+
+-- the text of the record at a place of a script is the line of its number
+pub line_read : (bytes : List ℕ) (lines : List Line) → sound bytes lines ≡ true → (number i : ℕ) (l : Line) (t : List ℕ) → 1 ≤ number → i ≡ number - 1 → i < length lines → l ≡ get_or lines i l → t ≡ line_text bytes l → Some t ≡ line_numbered (lines_of bytes) number
+line_read bytes lines h number i l t low e k g q =
+    ap Some q ∙ line_found bytes lines (sound_records bytes lines h) number i l low (sym e) k g
