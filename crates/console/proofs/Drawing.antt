@@ -1,7 +1,12 @@
 -- Text written part by part.
-use Rattle.std.proofs.Common.{◌≡◌, ℕ, suc, ◌+◌, ◌-◌, ◌<◌, List, [], ◌∷◌, ◌++◌, pos, ap, ◌∙◌, arith}
+use Rattle.std.proofs.Common.{◌≡◌, ℕ, suc, ◌+◌, ◌-◌, ◌<◌, List, [], ◌∷◌, ◌++◌, pos, sym, ap, ◌∙◌, append_assoc, arith}
 use Rattle.map.specs.Boards.{Board, holder_of}
 use Rattle.console.specs.Boards.{answers_from, board_on, mark_of, cells_from, column_text, grid_from, board_text, orders_text}
+
+-- what was to be written, less the part that is written now
+pub part_more : (out after x rest whole goal : List ℕ) → after ≡ out ++ x → whole ≡ x ++ rest → out ++ whole ≡ goal → after ++ rest ≡ goal
+part_more out after x rest whole goal e w inv =
+    ap (λ (ys : List ℕ). ys ++ rest) e ∙ append_assoc out x rest ∙ ap (λ (ys : List ℕ). out ++ ys) (sym w) ∙ inv
 
 -- answers and then the board, onto nothing
 pub played : (out one two : List ℕ) (lines : List (List ℕ)) (first last : Board) → out ≡ [] → first ≡ [] → one ≡ out ++ answers_from first lines → last ≡ board_on first lines → two ≡ one ++ board_text last → two ≡ orders_text lines

@@ -1,4 +1,5 @@
 pub mod Parts
+pub mod Records
 pub mod Cutting
 pub mod Sizes
 pub mod Soundness

@@ -21,8 +21,8 @@ counted : (b : Bool) (m : ℕ) (e : ℕ × Option ℕ) (n : ℕ) → cond b (Ok 
 counted true m e n h = cc
 counted false m e n h = cc
 
-lt_self : (n : ℕ) → ltb n n ≡ false
-lt_self n = grind arith
+not_past : (l room : ℕ) → l ≤ room → ltb room l ≡ false
+not_past l room h = grind arith
 
 module _ (bytes : List ℕ) (records n : ℕ) (ok : judged bytes records ≡ Ok n) where
   lines_passed : cond {A = Verdict} (ltb 1024 (length (lines_of bytes)) || ltb records (length (lines_of bytes))) (Err (4, None)) (cond {A = Verdict} (traced (lines_of bytes)) (Ok (length (lines_of bytes))) (Err (5, None))) ≡ Ok n
@@ -42,14 +42,18 @@ module _ (bytes : List ℕ) (records n : ℕ) (ok : judged bytes records ≡ Ok 
       let c = lines_counted in
       (omega arith, omega arith)
 
-  -- room for no more records than there are lines is enough
-  pub room_enough : judged bytes n ≡ Ok n
-  room_enough =
+  -- room for as many records as there are lines is enough, and more does no harm
+  pub room_for : (room : ℕ) → n ≤ room → judged bytes room ≡ Ok n
+  room_for room h =
       let l : ℕ = length (lines_of bytes) in
       let b : (ltb 1024 l || ltb records l) ≡ false = (passed (ltb 1024 l || ltb records l) (4, None) _ n lines_passed).0 in
-      let c : (ltb 1024 l || ltb n l) ≡ false = or_from _ _ (or_parts _ _ b).0 (ap (λ (m : ℕ). ltb m l) (sym lines_counted) ∙ lt_self l) in
+      let few : l ≤ room = let e = lines_counted in omega arith in
+      let c : (ltb 1024 l || ltb room l) ≡ false = or_from _ _ (or_parts _ _ b).0 (not_past l room few) in
       ap (λ (t : Bool). cond {A = Verdict} (ltb 65535 (length bytes)) (Err (1, None)) (unless_at 2 (first_line foreign (lines_of bytes)) (unless_at 3 (first_line long (lines_of bytes)) (cond {A = Verdict} t (Err (4, None)) (cond {A = Verdict} (traced (lines_of bytes)) (Ok l) (Err (5, None))))))) (c ∙ sym b)
       ∙ ok
+
+  pub room_enough : judged bytes n ≡ Ok n
+  room_enough = room_for n (omega arith)
 
 pub length-records : (at : ℕ) (ls : List (List ℕ)) → length (records_from at ls) ≡ length ls
 length-records at [] = refl
@@ -82,6 +86,13 @@ accepted (Err e) h = absurd (cc)
 module _ (bytes : List ℕ) (lines : List Line) (h : sound bytes lines ≡ true) where
   pub sound_records : lines ≡ records_of bytes
   sound_records = same_records_lem _ _ (and_parts _ _ h).1
+
+  -- with room for as many records, or more, the verdict is their number
+  pub sound_verdict : (room : ℕ) → length lines ≤ room → judged bytes room ≡ Ok (length lines)
+  sound_verdict room few =
+      let v = accepted _ (and_parts _ _ h).0 in
+      let e : v.0 ≡ length lines = sym (lines_counted bytes (length lines) v.0 v.1) ∙ sym (length-records 0 (lines_of bytes)) ∙ sym (ap length sound_records) in
+      room_for bytes (length lines) v.0 v.1 room (omega arith) ∙ ap Ok e
 
   pub sound_few : length lines ≤ 1024
   sound_few =

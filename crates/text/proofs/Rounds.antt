@@ -1,5 +1,5 @@
 -- How a loop over records comes to the first that passes.
-use Rattle.std.proofs.Common.{◌≡◌, add-zero, add_assoc, option_map, ℕ, ◌+◌, ◌<◌, ◌≤◌, min, Bool, true, false, cond, List, [], ◌∷◌, map, length, take, drop, Some, None, Option, sym, refl, ap, ◌∙◌, ⊎_elim, arith, length-take}
+use Rattle.std.proofs.Common.{◌≡◌, add-zero, add_assoc, option_map, ℕ, suc, ◌+◌, ◌-◌, ◌<◌, ◌≤◌, min, Bool, true, false, cond, List, [], ◌∷◌, map, length, get_or, take, drop, Some, None, Option, sym, refl, ap, ◌∙◌, ⊎_elim, arith, length-take}
 use Rattle.std.proofs.lemmas.List.{drop_all, take_min, take-map, drop-map}
 use Rattle.std.proofs.lemmas.Bool.{cases_lt, cases_Bool}
 use Rattle.text.specs.Search.{first_from, or_else, first_round}
@@ -42,7 +42,7 @@ first_round-map {A} {B} f p from xs =
     ap (λ (o : Option ℕ). or_else o (first_from (λ (x : A). p (f x)) 0 (take from xs))) (first_from-map f p from (drop from xs) ∙ ap (first_from p from) (sym (drop-map f from xs)))
     ∙ ap (or_else (first_from p from (drop from (map f xs)))) (first_from-map f p 0 (take from xs) ∙ ap (first_from p 0) (sym (take-map f from xs)))
 
--- what is found is one of the list
+-- what is found is one of the list, and passes
 module _ {R : Type 0} (p : R → Bool) where
   pub first_within : (xs : List R) (k i : ℕ) → Some i ≡ first_from p k xs → (k ≤ i) × (i < k + length xs)
   first_within [] k i e = absurd (let z : ◌≡◌ {A = ℕ} 0 1 = cc in omega arith)
@@ -50,4 +50,20 @@ module _ {R : Type 0} (p : R → Bool) where
       ⊎_elim
       (λ (h : p x ≡ true). let f : Some i ≡ Some k = rw h at e in let j : i ≡ k = cc in (omega arith, omega arith))
       (λ (h : p x ≡ false). let g = first_within xs (k + 1) i (rw h at e) in (omega arith, omega arith))
+      (cases_Bool (p x))
+
+  pub first_passes : (xs : List R) (k i : ℕ) (d : R) → Some i ≡ first_from p k xs → p (get_or xs (i - k) d) ≡ true
+  first_passes [] k i d e = absurd (let z : ◌≡◌ {A = ℕ} 0 1 = cc in omega arith)
+  first_passes (x ∷ xs) k i d e =
+      ⊎_elim
+      (λ (h : p x ≡ true).
+      let f : Some i ≡ Some k = rw h at e in
+      let j : i ≡ k = cc in
+      let z : i - k ≡ 0 = omega arith in
+      rw z h)
+      (λ (h : p x ≡ false).
+      let f : Some i ≡ first_from p (k + 1) xs = rw h at e in
+      let low = first_within xs (k + 1) i f in
+      let z : i - k ≡ suc (i - (k + 1)) = omega arith in
+      rw z (first_passes xs (k + 1) i d f))
       (cases_Bool (p x))

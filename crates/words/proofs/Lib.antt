@@ -1,3 +1,4 @@
 pub mod Layouts
 pub mod Listings
 pub mod Lines
+pub mod Writes
